@@ -1,0 +1,4 @@
+pub mod Stores
+pub mod Making
+pub mod Reads
+pub mod Spelled

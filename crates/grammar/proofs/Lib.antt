@@ -1,0 +1,15 @@
+pub mod Unambiguity
+pub mod Automaton
+pub mod Scans
+pub mod Shapes
+pub mod Sameness
+pub mod Adding
+pub mod Records
+pub mod Entries
+pub mod Basics
+pub mod Measures
+pub mod FirstPlaces
+pub mod Buffers
+pub mod Spelling
+pub mod Readings
+pub mod Examples

@@ -1,0 +1,12 @@
+pub mod Symbols
+pub mod Formula
+pub mod Texts
+pub mod WrittenText
+pub mod Contents
+pub mod Records
+pub mod Refusals
+pub mod Reading
+pub mod Writing
+pub mod Scanning
+pub mod Entering
+pub mod Examples

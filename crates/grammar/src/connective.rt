@@ -1,0 +1,8 @@
+// What joins two formulas.
+
+#[derive(Clone, Copy, PartialEq, Eq, Debug)]
+pub enum Connective {
+    And,
+    Or,
+    Implies,
+}

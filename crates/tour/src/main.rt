@@ -1,0 +1,8 @@
+// A guided tour of the library: each chapter takes a task from start to finish and prints each action with its answer.
+use std::error::AnyError;
+
+mod chapter_formulas;
+
+fn main(rt: LibcRuntime) -> Result<(), AnyError> {
+    rt.report(chapter_formulas::tell(&rt))
+}
