@@ -4,7 +4,8 @@ use mathlib.Core.Logic.{_⊎_}
 use mathlib.Core.List.{List}
 use Prim.Native.Nat.{ℕ, min, _<_, _≤_}
 use lib.ListN.{length, take, getD}
-use Rattle.std.specs.Of.Vec.{vec-items, vec-len}
+use Rattle.std.specs.Of.Vec.{vec-items}
+use Rattle.grammar.specs.Limits.{most-records}
 use Rattle.grammar.specs.Formula.{Formula}
 use Rattle.grammar.specs.Records.{formulas}
 use Rattle.grammar.specs.declared.node.Node.{Node}
@@ -24,7 +25,7 @@ count s = length (contents s)
 
 -- how many records may be used
 abbrev pub capacity : Store → ℕ
-capacity s = min (length (records s)) 4096
+capacity s = min (length (records s)) most-records
 
 -- the store has as many records as before, and all but the newly used ones are as they were
 pub record Others-stay (before after : Store) : Type 0 where

@@ -3,6 +3,7 @@ ghost use Prim.Native.Nat.{_≤_};
 ghost use lib.ListN.{take};
 ghost use Rattle.std.specs.Of.Vec.{vec-items, vec-len};
 ghost use Rattle.grammar.specs.Contents.{Base, Once, AllFitting};
+ghost use Rattle.grammar.specs.Limits.{most-records};
 ghost use Rattle.grammar.specs.Records.{formulas, Founded};
 use grammar::node::Node;
 
@@ -21,7 +22,7 @@ pub struct Store {
     nodes: Vec<Node>,
     used: usize,
     ghost within: { used ≤ vec-len nodes },
-    ghost most: { used ≤ 4096 },
+    ghost most: { used ≤ most-records },
     ghost founded: { Founded (take used (vec-items nodes)) },
     ghost base: { Base (formulas (take used (vec-items nodes))) },
     ghost once: { Once (formulas (take used (vec-items nodes))) },

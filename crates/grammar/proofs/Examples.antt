@@ -22,10 +22,13 @@ use Rattle.grammar.proofs.FirstPlaces.{stuck-none}
 use Rattle.grammar.proofs.Readings.{reads-at, no-formula, too-deep}
 
 answers-at : (least : ℕ) (s : List ℕ) (f : Formula) (p : ℕ) → Readable s f → 27 + signs s ≤ least → p < length (entered basic f) → formula-at (entered basic f) p ≡ f → Answers least s (Ok p)
-answers-at least s f p r room l here c gs a h w = reads-at s c basic gs f p (basics-good .once) r (omega arith) l here a w
+answers-at least s f p r room l here c h = (
+  (entered basic f, ((f, r, record { held = refl; within = l; found = here }), omega arith)),
+  λ gs a w. reads-at s c basic gs f p (basics-good .once) r (omega arith) l here a w,
+)
 
 answers-wrong : (s : List ℕ) (i : ℕ) → length s ≤ 1024 → NoFormula s i → Answers 27 s (Err (NotFormula i))
-answers-wrong s i short n c gs a h w = no-formula s c basic gs short i n a w
+answers-wrong s i short n c h = ((basic, ((short, n), refl)), λ gs a w. no-formula s c basic gs short i n a w)
 
 abbrev p-letter : Formula
 p-letter = letter 112
@@ -49,5 +52,5 @@ examples = record {
   unbracketed = answers-wrong (codes "p&q") 1 (lit≤ tt) (stuck-none (codes "p&q") 1 (codes "p") [] refl refl refl refl (λ f h x. absurd (omega arith)));
   empty = answers-wrong [] 0 (lit≤ tt) (stuck-none [] 0 [] (formula ∷ []) refl refl refl refl (λ f h x. awaits-none formula [] (run-text x [])));
   deepest = answers-at 59 (tildes-p 32) (negations 32) 58 (record { short = lit≤ tt; text = negations-text 32; shallow = lit≤ tt }) (lit≤ tt) (lit< tt) refl;
-  too-deep = λ c gs a h w. too-deep (tildes-p 33) c basic gs (lit≤ tt) (negations 33) (negations-text 33) (lit< tt) a w;
+  too-deep = λ c h. ((basic, ((lit≤ tt, (negations 33, negations-text 33, lit< tt)), refl)), λ gs a w. too-deep (tildes-p 33) c basic gs (lit≤ tt) (negations 33) (negations-text 33) (lit< tt) a w);
 }

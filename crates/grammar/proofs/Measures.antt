@@ -14,6 +14,7 @@ use Rattle.grammar.specs.Formula.Formula.{falsum, letter, joined}
 use Rattle.grammar.specs.Texts.{Text, bracketed}
 use Rattle.grammar.specs.WrittenText.{text, join-text}
 use Rattle.grammar.specs.Contents.{lettered, Fitting}
+use Rattle.grammar.specs.TextLaws.{Text-laws}
 use Rattle.grammar.specs.declared.connective.Connective.{Connective}
 use Rattle.grammar.specs.declared.connective.Connective.the-variants.{And, Or, Implies}
 use Rattle.grammar.proofs.Entries.{bracketed-long}
@@ -75,7 +76,7 @@ join-shorter Implies falsum s t s′ t′ h l = omega (arith, bracketed-long Imp
 join-shorter Implies (letter c) s t s′ t′ h l = omega (arith, bracketed-long Implies s t, bracketed-long Implies s′ t′)
 join-shorter Implies (joined k f g) s t s′ t′ h l = omega (arith, bracketed-long Implies s t, bracketed-long Implies s′ t′)
 
-text-shortest : {f : Formula} {s : List ℕ} → Text f s → length (text f) ≤ length s
+pub text-shortest : {f : Formula} {s : List ℕ} → Text f s → length (text f) ≤ length s
 text-shortest Text.falsum = omega arith
 text-shortest (Text.letter h) = omega arith
 text-shortest (Text.joined {k = k} {f = f} {g = g} {s = s} {t = t} x y) = join-shorter k g (text f) (text g) s t (text-shortest x) (text-shortest y)
@@ -83,3 +84,6 @@ text-shortest (Text.negated x) = omega (arith, text-shortest x)
 
 pub fits : (s : List ℕ) (f : Formula) → Text f s → length s ≤ 1024 → nesting f ≤ 32 → Fitting f
 fits s f x long deep = (deep, omega (arith, text-shortest x), text-lettered x)
+
+pub text-laws : Text-laws
+text-laws = record { written = is-text; shortest = text-shortest; signs-are = signs-joins }

@@ -10,30 +10,30 @@ use Rattle.std.proofs.shelf.Lists.{getD-take, length-take-le}
 use Rattle.std.proofs.shelf.Tests.{eqb-true, eq-eqb, and-parts, and-from, or-cases, or-left, or-right, cases-order, cases-bool, both-ways, true≢false}
 use Rattle.grammar.specs.Formula.{Formula}
 use Rattle.grammar.specs.Formula.Formula.{falsum, letter, joined}
-use Rattle.grammar.specs.Contents.{formula-at, same-sign, same, holds, Once}
+use Rattle.grammar.specs.Contents.{formula-at, same-connective, same, holds, Once}
 use Rattle.grammar.specs.declared.connective.Connective.{Connective}
 use Rattle.grammar.specs.declared.connective.Connective.the-variants.{And, Or, Implies}
 
-same-sign-refl : (k : Connective) → same-sign k k ≡ true
-same-sign-refl And = refl
-same-sign-refl Or = refl
-same-sign-refl Implies = refl
+same-connective-refl : (k : Connective) → same-connective k k ≡ true
+same-connective-refl And = refl
+same-connective-refl Or = refl
+same-connective-refl Implies = refl
 
-same-sign-true : (j k : Connective) → same-sign j k ≡ true → j ≡ k
-same-sign-true And And e = refl
-same-sign-true And Or e = absurd (true≢false (sym e))
-same-sign-true And Implies e = absurd (true≢false (sym e))
-same-sign-true Or And e = absurd (true≢false (sym e))
-same-sign-true Or Or e = refl
-same-sign-true Or Implies e = absurd (true≢false (sym e))
-same-sign-true Implies And e = absurd (true≢false (sym e))
-same-sign-true Implies Or e = absurd (true≢false (sym e))
-same-sign-true Implies Implies e = refl
+same-connective-true : (j k : Connective) → same-connective j k ≡ true → j ≡ k
+same-connective-true And And e = refl
+same-connective-true And Or e = absurd (true≢false (sym e))
+same-connective-true And Implies e = absurd (true≢false (sym e))
+same-connective-true Or And e = absurd (true≢false (sym e))
+same-connective-true Or Or e = refl
+same-connective-true Or Implies e = absurd (true≢false (sym e))
+same-connective-true Implies And e = absurd (true≢false (sym e))
+same-connective-true Implies Or e = absurd (true≢false (sym e))
+same-connective-true Implies Implies e = refl
 
 pub same-refl : (f : Formula) → same f f ≡ true
 same-refl falsum = refl
 same-refl (letter c) = eq-eqb c c refl
-same-refl (joined k f g) = and-from _ _ (and-from _ _ (same-sign-refl k) (same-refl f)) (same-refl g)
+same-refl (joined k f g) = and-from _ _ (and-from _ _ (same-connective-refl k) (same-refl f)) (same-refl g)
 
 pub same-true : (f g : Formula) → same f g ≡ true → f ≡ g
 same-true falsum falsum e = refl
@@ -45,9 +45,9 @@ same-true (letter c) (joined k f g) e = absurd (true≢false (sym e))
 same-true (joined k f g) falsum e = absurd (true≢false (sym e))
 same-true (joined k f g) (letter d) e = absurd (true≢false (sym e))
 same-true (joined k f g) (joined k′ f′ g′) e =
-    let p = and-parts (same-sign k k′ && same f f′) (same g g′) e in
-    let q = and-parts (same-sign k k′) (same f f′) (p .0) in
-    let a = same-sign-true k k′ (q .0) in
+    let p = and-parts (same-connective k k′ && same f f′) (same g g′) e in
+    let q = and-parts (same-connective k k′) (same f f′) (p .0) in
+    let a = same-connective-true k k′ (q .0) in
     let b = same-true f f′ (q .1) in
     let c = same-true g g′ (p .1) in
     λ i. joined (a i) (b i) (c i)

@@ -5,6 +5,7 @@ use mathlib.Core.List.{List, [], _∷_, _++_}
 use Prim.Native.Nat.{ℕ, zero, suc, _+_, _≤_, _<_}
 use lib.Dec.{eqb, leb}
 use lib.ListN.{length, getD, take}
+use Rattle.grammar.specs.Limits.{most-bytes, most-nesting, least-records}
 use Rattle.grammar.specs.Formula.{Formula, nesting}
 use Rattle.grammar.specs.Formula.Formula.{falsum, letter, joined}
 use Rattle.grammar.specs.WrittenText.{text}
@@ -23,17 +24,17 @@ letters c (suc n) = letter c ∷ letters (c + 1) n
 abbrev pub basic : List Formula
 basic = falsum ∷ letters 97 26
 
--- whether two formulas are the same
-abbrev pub same-sign : Connective → Connective → Bool
-same-sign And And = true
-same-sign And Or = false
-same-sign And Implies = false
-same-sign Or And = false
-same-sign Or Or = true
-same-sign Or Implies = false
-same-sign Implies And = false
-same-sign Implies Or = false
-same-sign Implies Implies = true
+-- whether two connectives, and two formulas, are the same: tests, since a store's invariant is made of tests
+abbrev pub same-connective : Connective → Connective → Bool
+same-connective And And = true
+same-connective And Or = false
+same-connective And Implies = false
+same-connective Or And = false
+same-connective Or Or = true
+same-connective Or Implies = false
+same-connective Implies And = false
+same-connective Implies Or = false
+same-connective Implies Implies = true
 
 abbrev pub same : Formula → Formula → Bool
 same falsum falsum = true
@@ -44,13 +45,13 @@ same (letter c) (letter d) = eqb c d
 same (letter c) (joined k f g) = false
 same (joined k f g) falsum = false
 same (joined k f g) (letter d) = false
-same (joined k f g) (joined k′ f′ g′) = same-sign k k′ && same f f′ && same g g′
+same (joined k f g) (joined k′ f′ g′) = same-connective k k′ && same f f′ && same g g′
 
 abbrev pub holds : List Formula → Formula → Bool
 holds [] f = false
 holds (g ∷ fs) f = same g f || holds fs f
 
--- each formula is held once
+-- a formula is added behind the others, unless it is there
 abbrev pub added : List Formula → Formula → List Formula
 added fs f = cond (holds fs f) fs (fs ++ f ∷ [])
 
@@ -68,11 +69,11 @@ lettered (joined k f g) = lettered f && lettered g
 
 -- a formula that can be read: its written text is short enough, and it nests no deeper than is allowed
 abbrev pub Fitting : Formula → Type 0
-Fitting f = (nesting f ≤ 32) × (length (text f) ≤ 1024) × (lettered f ≡ true)
+Fitting f = (nesting f ≤ most-nesting) × (length (text f) ≤ most-bytes) × (lettered f ≡ true)
 
 -- a list of formulas that begins with # and the letters
 abbrev pub Base : List Formula → Type 0
-Base fs = (27 ≤ length fs) × ((i : ℕ) → i < 27 → same (formula-at fs i) (formula-at basic i) ≡ true)
+Base fs = (least-records ≤ length fs) × ((i : ℕ) → i < least-records → same (formula-at fs i) (formula-at basic i) ≡ true)
 
 -- no formula stands at two places
 abbrev pub Once : List Formula → Type 0

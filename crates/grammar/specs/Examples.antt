@@ -1,6 +1,6 @@
 -- Examples of reading by a fresh store.
 use mathlib.Core.Path.{_≡_}
-use mathlib.Core.List.{List, [], _∷_, _++_}
+use mathlib.Core.List.{List, [], _++_}
 use Prim.Native.Nat.{ℕ, _≤_}
 use lib.Chars.{codes}
 use lib.ListN.{replicate}
@@ -12,9 +12,10 @@ use Rattle.grammar.specs.declared.refusal.Refusal.the-variants.{NotFormula, De
 use Rattle.std.specs.declared.result.Result.{Result}
 use Rattle.std.specs.declared.result.Result.the-variants.{Ok, Err}
 
--- a fresh store of at least so many records answers a text so
+-- a fresh store of at least so many records answers a text so, and in no other way
 abbrev pub Answers : ℕ → List ℕ → Result ℕ Refusal → Type 0
-Answers least s answer = (capacity : ℕ) (gs : List Formula) (a : Result ℕ Refusal) → least ≤ capacity → Read s capacity basic gs a → a ≡ answer
+Answers least s answer =
+    (capacity : ℕ) → least ≤ capacity → ((gs : List Formula) × Read s capacity basic gs answer) × ((gs : List Formula) (a : Result ℕ Refusal) → Read s capacity basic gs a → a ≡ answer)
 
 -- p after n signs ~
 abbrev pub tildes-p : ℕ → List ℕ

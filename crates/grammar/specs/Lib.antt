@@ -1,8 +1,10 @@
+pub mod Limits
 pub mod Symbols
 pub mod Formula
 pub mod Texts
 pub mod WrittenText
 pub mod Contents
+pub mod TextLaws
 pub mod Records
 pub mod Refusals
 pub mod Reading

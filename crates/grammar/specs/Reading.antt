@@ -3,6 +3,7 @@ use mathlib.Core.Path.{_≡_}
 use mathlib.Core.List.{List}
 use Prim.Native.Nat.{ℕ, _+_, _≤_, _<_}
 use lib.ListN.{length}
+use Rattle.grammar.specs.Limits.{most-bytes, most-nesting}
 use Rattle.grammar.specs.Formula.{Formula, nesting}
 use Rattle.grammar.specs.Symbols.{signs}
 use Rattle.grammar.specs.Texts.{Text, NoFormula}
@@ -14,9 +15,9 @@ use Rattle.std.specs.declared.result.Result.the-variants.{Ok, Err}
 
 -- s is a text of f that can be read
 pub record Readable (s : List ℕ) (f : Formula) : Type 0 where
-  pub short : length s ≤ 1024
+  pub short : length s ≤ most-bytes
   pub text : Text f s
-  pub shallow : nesting f ≤ 32
+  pub shallow : nesting f ≤ most-nesting
 
 -- s is a text that can be read, so deep and with so many signs
 pub record Recognised (s : List ℕ) (nests marks : ℕ) : Type 0 where
@@ -28,14 +29,14 @@ pub record Recognised (s : List ℕ) (nests marks : ℕ) : Type 0 where
 -- why a text can be read by no store
 abbrev pub Unreadable : List ℕ → Refusal → Type 0
 Unreadable s FewRecords = ⊥
-Unreadable s LongText = 1024 < length s
-Unreadable s (NotFormula i) = (length s ≤ 1024) × NoFormula s i
-Unreadable s DeepFormula = (length s ≤ 1024) × ((f : Formula) × Text f s × (32 < nesting f))
+Unreadable s LongText = most-bytes < length s
+Unreadable s (NotFormula i) = (length s ≤ most-bytes) × NoFormula s i
+Unreadable s DeepFormula = (length s ≤ most-bytes) × ((f : Formula) × Text f s × (most-nesting < nesting f))
 Unreadable s RecordsWanting = ⊥
 Unreadable s ShortBuffer = ⊥
 Unreadable s NotStored = ⊥
 
--- what held fs holds gs once f is entered, with f at a place
+-- entering f turns the formulas fs into gs, and f then stands at a place
 pub record Enters (fs gs : List Formula) (f : Formula) (place : ℕ) : Type 0 where
   pub held : gs ≡ entered fs f
   pub within : place < length gs
@@ -56,7 +57,7 @@ abbrev pub Read : List ℕ → ℕ → List Formula → List Formula → Result 
 Read s capacity fs gs (Ok place) = ((f : Formula) × Readable s f × Enters fs gs f place) × (length fs + signs s ≤ capacity)
 Read s capacity fs gs (Err refusal) = Refused s capacity fs refusal × (gs ≡ fs)
 
--- a reading has one answer
+-- a reading has no two answers, where each formula is held once
 abbrev pub One-answer : Type 0
 One-answer =
     (s : List ℕ) (capacity : ℕ) (fs gs hs : List Formula) (a b : Result ℕ Refusal) → Once fs → Read s capacity fs gs a → Read s capacity fs hs b → (a ≡ b) × (gs ≡ hs)

@@ -6,7 +6,7 @@ use Prim.Native.Nat.{ℕ, _+_, _≤_, _<_}
 use lib.ListN.{length, take, drop}
 use Rattle.grammar.specs.Formula.{Formula}
 use Rattle.grammar.specs.WrittenText.{text}
-use Rattle.grammar.specs.Contents.{formula-at, Base, Once, AllFitting}
+use Rattle.grammar.specs.Contents.{formula-at, Once}
 use Rattle.grammar.specs.Reading.{Read}
 use Rattle.grammar.specs.declared.refusal.Refusal.{Refusal}
 use Rattle.grammar.specs.declared.refusal.Refusal.the-variants.{FewRecords, LongText, NotFormula, DeepFormula, RecordsWanting, ShortBuffer, NotStored}

@@ -1,5 +1,5 @@
 // The theory of formulas: what their texts are, what a list of records stands for, and what reading and writing mean.
-// The code above it is proved against these definitions.
+// The crates that use it are proved against these definitions.
 //
 //   connective::Connective   and, or, implies
 //   symbol::Symbol           what a byte of a text stands for

@@ -2,6 +2,7 @@
 ghost use Rattle.grammar.specs.Examples.{Examples};
 ghost use Rattle.grammar.specs.Reading.{One-answer};
 ghost use Rattle.grammar.specs.Records.{One-making};
+ghost use Rattle.grammar.specs.TextLaws.{Text-laws};
 ghost use Rattle.grammar.specs.Texts.{Unambiguous};
 
 // A text is the text of one formula, and no text is the beginning of another.
@@ -9,7 +10,12 @@ pub fn texts_are_unambiguous()
     ensures { λ _. ⌜ Unambiguous ⌝ }
 {}
 
-// A text that is read into a store has one answer, and one list of formulas that the store then holds.
+// The written text is a text of its formula and none is shorter, and all texts have as many signs.
+pub fn texts_agree()
+    ensures { λ _. ⌜ Text-laws ⌝ }
+{}
+
+// A text that is read into a store has no two answers, and no two lists of formulas that the store then holds.
 pub fn reading_has_one_answer()
     ensures { λ _. ⌜ One-answer ⌝ }
 {}

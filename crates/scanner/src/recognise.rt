@@ -9,7 +9,7 @@ const MOST_BYTES: usize = 1024;
 const MOST_NESTING: usize = 32;
 
 // How deep a text nests, and how many signs ~ & | > it has.
-#[derive(Clone, Copy)]
+#[derive(Clone, Copy, PartialEq, Debug)]
 pub struct Measured {
     pub nesting: usize,
     pub signs: usize,

@@ -22,7 +22,7 @@ pub fn symbol_of(byte: u8) -> Symbol
     }
 }
 
-// What stands at a place of a text; past its end there is no symbol.
+// What stands at a place of a text; past its end that is `Other`, as a byte is that has no place in a text.
 pub fn symbol_at(text: &[u8], at: usize) -> Symbol
     ensures { λ r. ⌜ r ≡ symbol (getD (now (text .entry)) at 0) ⌝ }
 {

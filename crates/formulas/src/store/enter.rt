@@ -66,6 +66,7 @@ impl Store {
                     end: second.end + 1,
                 }
             }
+            // What begins a formula and is none of these is falsum.
             _ => Entered {
                 place: 0,
                 end: at + 1,

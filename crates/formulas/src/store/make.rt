@@ -2,7 +2,8 @@
 ghost use mathlib.Core.Path.{_≡_};
 ghost use Rattle.std.specs.Results.{Cases};
 ghost use Rattle.formulas.specs.Making.{Made, NotEnough};
-ghost use Rattle.formulas.specs.Stores.{records};
+ghost use Rattle.std.specs.Of.Vec.{vec-items};
+ghost use Rattle.formulas.specs.Stores.{records as records-of};
 use crate::store::Store;
 use grammar::node::Node;
 use grammar::refusal::Refusal;
@@ -37,7 +38,7 @@ impl Store {
 
     // The records, as the store leaves them.
     pub fn into_records(self) -> Vec<Node>
-        ensures { λ r. ⌜ r ≡ self .nodes ⌝ }
+        ensures { λ r. ⌜ vec-items r ≡ records-of self ⌝ }
     {
         let Store { nodes, used: _ } = self;
         nodes

@@ -15,7 +15,7 @@ impl Store {
     // The place of a record, which is added if it is not there.
     pub(crate) fn place_of(&mut self, node: Node) -> usize
         requires room { ⌜ count (now self) < capacity (now self) ⌝ }
-        requires joins { ⌜ parts-below (count (now self)) node ≡ true ⌝ }
+        requires below { ⌜ parts-below (count (now self)) node ≡ true ⌝ }
         requires fitting { ⌜ Fitting (meaning (contents (now self)) node) ⌝ }
         ensures held { λ r. ⌜ contents (now (self .exit)) ≡ added (contents (now (self .entry))) (meaning (contents (now (self .entry))) node) ⌝ }
         ensures found { λ r. ⌜ formula-at (contents (now (self .exit))) r ≡ meaning (contents (now (self .entry))) node ⌝ }

@@ -21,6 +21,7 @@ enum Spelling {
     Joined(u8, usize, usize),
 }
 
+// The byte of a connective's sign.
 fn sign_of(connective: Connective) -> u8
     ensures { λ r. ⌜ r ≡ byte-of connective ⌝ }
 {
@@ -46,6 +47,7 @@ impl Store {
         Ok(self.write_at(place, buffer, 0))
     }
 
+    // How the formula at a place is spelled.
     fn spelling_of(&self, place: usize) -> Spelling
         requires { ⌜ place < count (now self) ⌝ }
         ensures { λ r. ⌜ SpelledBy (contents (now (self .entry))) place r ⌝ }
@@ -64,6 +66,7 @@ impl Store {
         }
     }
 
+    // How long the text of the formula at a place is.
     fn text_len(&self, place: usize) -> usize
         requires { ⌜ place < count (now self) ⌝ }
         ensures { λ r. ⌜ r ≡ length (text-at (contents (now (self .entry))) place) ⌝ }

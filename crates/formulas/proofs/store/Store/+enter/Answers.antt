@@ -78,7 +78,7 @@ place-of-place-requires t c κs =
     let p : ℕ = c .enter-part .result .place in
     record {
       room = joined-room _ _ (contents st) (contents st) Implies (n .part) falsum p 0 p a refl (falsum-at (contents st) (st .base)) _ (omega (arith, same-capacity (c .enter-part .ensures .stay), not-room (c .pre) n));
-      joins = joined-low _ _ (contents st) (contents st) Implies (n .part) falsum p 0 p a refl (falsum-at (contents st) (st .base)) (omega (arith, st .base .0));
+      below = joined-low _ _ (contents st) (contents st) Implies (n .part) falsum p 0 p a refl (falsum-at (contents st) (st .base)) (omega (arith, st .base .0));
       fitting = joined-fitting _ _ (contents st) (contents st) Implies (n .part) falsum p 0 p a refl (falsum-at (contents st) (st .base)) (not-fits (c .pre) n);
     }
 
@@ -163,7 +163,7 @@ place-of-place-requires-in-Open t c κs =
     let q : ℕ = c .enter-second .result .place in
     record {
       room = joined-room _ _ (contents st) (contents st) (c .connective-at-connective .result) _ _ p q p (a .1) (b .1 .held) (b .1 .found) _ (omega (arith, same-capacity (c .enter-second .ensures .stay), same-capacity (c .enter-first .ensures .stay), open-room (c .pre) o));
-      joins = joined-low _ _ (contents st) (contents st) (c .connective-at-connective .result) _ _ p q p (a .1) (b .1 .held) (b .1 .found) (b .1 .within);
+      below = joined-low _ _ (contents st) (contents st) (c .connective-at-connective .result) _ _ p q p (a .1) (b .1 .held) (b .1 .found) (b .1 .within);
       fitting = joined-fitting _ _ (contents st) (contents st) (c .connective-at-connective .result) _ _ p q p (a .1) (b .1 .held) (b .1 .found) (subst (λ j. Fitting (joined j (o .first) (o .second))) k (open-fits (c .pre) o));
     }
 

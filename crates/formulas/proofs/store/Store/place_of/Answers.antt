@@ -31,7 +31,7 @@ pub ghost-self : need.ghost-self
 ghost-self c =
     let s : Store = c .args .self .now in
     let room : s .used < length (records s) = omega (arith, count-is-used s, c .pre .room) in
-    let low : parts-below (s .used) (c .args .node) ≡ true = subst (λ l. parts-below l (c .args .node) ≡ true) (count-is-used s) (c .pre .joins) in
+    let low : parts-below (s .used) (c .args .node) ≡ true = subst (λ l. parts-below l (c .args .node) ≡ true) (count-is-used s) (c .pre .below) in
     let g = more-is-good (records s) (s .used) (within s) (good s) (c .args .node) room low (c .in-rest .ensures tt) (c .pre .fitting) in
     (omega (arith, s .nodes .ok .0), (omega (arith, count-is-used s, c .pre .room), (g .founded, (g .base, (g .once, (g .fitting, tt))))))
 
@@ -40,7 +40,7 @@ returns c =
     let s : Store = c .args .self .now in
     let n = c .args .node in
     let room : s .used < length (records s) = omega (arith, count-is-used s, c .pre .room) in
-    let low : parts-below (s .used) n ≡ true = subst (λ l. parts-below l n ≡ true) (count-is-used s) (c .pre .joins) in
+    let low : parts-below (s .used) n ≡ true = subst (λ l. parts-below l n ≡ true) (count-is-used s) (c .pre .below) in
     let long = more-long (records s) (s .used) (within s) (good s) n room low (c .in-rest .ensures tt) in
     record {
       held = more-contents (records s) (s .used) (within s) (good s) n room low (c .in-rest .ensures tt);
