@@ -1,4 +1,6 @@
-// Trials of the library on the edges of its limits. Each is proved to end and to keep to the contracts, and then run.
+// Trials of the library on the edges of its limits, and against tables computed by the definitions. Each is proved to end, and then run.
 
+#[cfg(test)]
+mod algebras_trials;
 #[cfg(test)]
 mod formulas_trials;

@@ -1,0 +1,10 @@
+pub mod Lattice
+pub mod Nuclei
+pub mod Products
+pub mod Sets
+pub mod Frames
+pub mod Kripke
+pub mod Closures
+pub mod Values
+pub mod Evaluating
+pub mod Examples

@@ -1,0 +1,12 @@
+pub mod Limits
+pub mod Meaning
+pub mod Order
+pub mod Worlds
+pub mod Layers
+pub mod Values
+pub mod Refusals
+pub mod Loading
+pub mod Evaluating
+pub mod Theorems
+pub mod Examples
+pub mod Tables
