@@ -4,10 +4,11 @@ use Prim.Native.Nat.{ℕ, _≤_, min}
 use native.Mathlib.Omega.{arith}
 use lib.Dec.{leb}
 use Rattle.std.proofs.shelf.Tests.{ltb-true, lt-ltb, leb-true, leb-false, cond-both}
+use Rattle.heyting.specs.Limits.{most-span}
 use Rattle.heyting.specs.Meaning.{Member, Below, Lawful}
 use Rattle.degrees.specs.Chains.{chain}
 
-pub chain-lawful : (n : ℕ) → 1 ≤ n → n ≤ 65536 → Lawful (chain n)
+pub chain-lawful : (n : ℕ) → 1 ≤ n → n ≤ most-span → Lawful (chain n)
 chain-lawful n least most = record {
   span-low = least;
   span-high = most;

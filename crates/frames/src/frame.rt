@@ -2,6 +2,7 @@
 ghost use mathlib.Core.Bool.{true, _&&_};
 ghost use mathlib.Core.Path.{_≡_};
 ghost use Prim.Native.Nat.{_≤_};
+ghost use Rattle.heyting.specs.Limits.{most-worlds};
 ghost use Rattle.heyting.specs.Tables.{table, Within, reflexive, transitive};
 
 mod build;
@@ -15,7 +16,7 @@ pub struct Frame {
     worlds: u8,
     up: [u16; 12],
     ghost least: { 1 ≤ worlds },
-    ghost most: { worlds ≤ 12 },
+    ghost most: { worlds ≤ most-worlds },
     ghost within: { Within worlds up },
     ghost ordered: { (reflexive worlds (table up) && transitive worlds (table up)) ≡ true },
 }

@@ -11,6 +11,8 @@ use Rattle.std.proofs.shelf.Tests.{cond-both, cases-lt}
 use Rattle.grammar.specs.Formula.{Formula, joins}
 use Rattle.grammar.specs.Formula.Formula.{falsum, letter, joined}
 use Rattle.grammar.specs.Contents.{formula-at, basic, same, holds, added, entered, Fitting, Base, Once, AllFitting}
+use Rattle.grammar.specs.EnteringLaws.{Part, Entering-laws}
+use Rattle.grammar.specs.EnteringLaws.Part.{whole, first, second}
 
 abbrev Longer : List Formula → ℕ → List Formula → Type 0
 Longer fs n gs = (length fs ≤ length gs) × (length gs ≤ length fs + n)
@@ -65,3 +67,26 @@ pub entered-once : (fs : List Formula) (f : Formula) → Once fs → Once (enter
 entered-once fs falsum once = once
 entered-once fs (letter c) once = once
 entered-once fs (joined k f g) once = added-once _ (joined k f g) (entered-once (entered fs f) g (entered-once fs f once))
+
+-- what is new
+
+added-last : (fs : List Formula) (f : Formula) (p : ℕ) → length fs ≤ p → p < length (added fs f) → formula-at (added fs f) p ≡ f
+added-last fs f p h =
+    cond-both (holds fs f) fs (fs ++ f ∷ []) (λ l. p < length l → formula-at l p ≡ f) (λ e l. absurd (omega arith)) (λ e l. getD-push fs f falsum p (omega (arith, length-push fs f)))
+
+parts-only : (fs : List Formula) (f : Formula) (p : ℕ) → length fs ≤ p → p < length (entered fs f) → Part (formula-at (entered fs f) p) f
+parts-only fs falsum p h l = absurd (omega arith)
+parts-only fs (letter c) p h l = absurd (omega arith)
+parts-only fs (joined k f g) p h l =
+    let one = entered fs f in
+    let two = entered one g in
+    let whole-is : length two ≤ p → Part (formula-at (added two (joined k f g)) p) (joined k f g) =
+    λ a. subst (λ x. Part x (joined k f g)) (sym (added-last two (joined k f g) p a l)) whole in
+    let from-first : p < length one → Part (formula-at two p) (joined k f g) =
+    λ b. subst (λ x. Part x (joined k f g)) (sym (entered-keeps one g p b)) (first (parts-only fs f p h b)) in
+    let from-part : p < length two → Part (formula-at (added two (joined k f g)) p) (joined k f g) =
+    λ a. subst (λ x. Part x (joined k f g)) (sym (added-keeps two (joined k f g) p a)) (⊎-elim from-first (λ b. second (parts-only one g p b a)) (cases-lt p (length one))) in
+    ⊎-elim from-part whole-is (cases-lt p (length two))
+
+pub entering-laws : Entering-laws
+entering-laws = record { stays = entered-keeps; parts-only = parts-only; few = λ fs f. entered-long fs f .1; once = entered-once }

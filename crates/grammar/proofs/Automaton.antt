@@ -1,12 +1,12 @@
 -- What a front of a text awaits: a machine with a stack that accepts the fronts of formulas' texts.
 use mathlib.Core.Path.{_≡_, refl, sym, ap, subst, _∙_}
-use mathlib.Core.List.{List, [], _∷_, _++_, append-assoc, append-nil}
-use Prim.Native.Nat.{ℕ, _≤_}
+use mathlib.Core.List.{List, [], _∷_, _++_, append-nil}
+use Prim.Native.Nat.{ℕ}
 use native.Mathlib.Omega.{arith}
 use Rattle.std.proofs.shelf.Ways.{tells}
 use Rattle.grammar.specs.Symbols.{symbol, sign, IsLetter}
 use Rattle.grammar.specs.Formula.{Formula}
-use Rattle.grammar.specs.Texts.{Text, Begins, bracketed}
+use Rattle.grammar.specs.Texts.{Text, Begins}
 use Rattle.grammar.specs.Scanning.{Awaited, State, step, run}
 use Rattle.grammar.specs.Scanning.Awaited.{formula, a-sign, close}
 use Rattle.grammar.specs.Scanning.State.{wrong, awaits}

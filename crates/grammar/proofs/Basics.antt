@@ -5,15 +5,13 @@ use mathlib.Core.List.{List, [], _∷_, _++_}
 use Prim.Native.Nat.{ℕ, zero, suc, _+_, _-_, _≤_, _<_}
 use native.Mathlib.Omega.{arith}
 use lib.ListN.{length, getD, take, set}
-use Rattle.std.specs.Orderings.{Decides}
 use Rattle.std.proofs.shelf.Lists.{take-more, take-more-set}
 use Rattle.std.proofs.shelf.Tests.{and-from, le-leb, not-true, not-from-false}
 use Rattle.std.proofs.shelf.Ways.{decides-below-and}
-use Rattle.grammar.specs.Formula.Formula.{letter}
 use Rattle.grammar.specs.Contents.{formula-at, basic, holds, Fitting}
 use Rattle.grammar.specs.Records.{formulas, parts-below}
 use Rattle.grammar.specs.declared.node.Node.{Node}
-use Rattle.grammar.specs.declared.node.Node.the-variants.{Falsum, Letter, Joined}
+use Rattle.grammar.specs.declared.node.Node.the-variants.{Falsum, Letter}
 use Rattle.grammar.proofs.Entries.{letters-at}
 use Rattle.grammar.proofs.Records.{Good}
 use Rattle.grammar.proofs.Sameness.{same-refl}

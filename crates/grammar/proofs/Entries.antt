@@ -7,7 +7,7 @@ use native.Mathlib.Omega.{arith}
 use lib.ListN.{length, length-append}
 use Rattle.std.proofs.shelf.Tests.{and-from, and-parts, lt-ltb}
 use Rattle.grammar.specs.Symbols.{IsLetter, sign}
-use Rattle.grammar.specs.Formula.{Formula, nesting, joins}
+use Rattle.grammar.specs.Formula.{Formula, joins}
 use Rattle.grammar.specs.Formula.Formula.{falsum, letter, joined}
 use Rattle.grammar.specs.Texts.{bracketed}
 use Rattle.grammar.specs.WrittenText.{text}

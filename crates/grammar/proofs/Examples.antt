@@ -1,12 +1,12 @@
 -- The examples, from the definitions.
 use mathlib.Core.Path.{_≡_, refl}
-use mathlib.Core.List.{List, [], _∷_, _++_}
+use mathlib.Core.List.{List, [], _∷_}
 use Prim.Native.Nat.{ℕ, zero, suc, _+_, _≤_, _<_}
 use native.Mathlib.Omega.{arith}
 use lib.Chars.{codes}
 use lib.Dec.{lit<, lit≤}
-use lib.ListN.{length, replicate}
-use Rattle.grammar.specs.Formula.{Formula, negation, nesting}
+use lib.ListN.{length}
+use Rattle.grammar.specs.Formula.{Formula, negation}
 use Rattle.grammar.specs.Formula.Formula.{falsum, letter, joined}
 use Rattle.grammar.specs.Symbols.{signs}
 use Rattle.grammar.specs.Texts.{Text, NoFormula}
@@ -14,7 +14,7 @@ use Rattle.grammar.specs.Contents.{formula-at, basic, entered}
 use Rattle.grammar.specs.Examples.{Answers, tildes-p, Examples}
 use Rattle.grammar.specs.Reading.{Readable}
 use Rattle.grammar.specs.Scanning.Awaited.{formula, close}
-use Rattle.grammar.specs.declared.refusal.Refusal.the-variants.{NotFormula, DeepFormula}
+use Rattle.grammar.specs.declared.refusal.Refusal.the-variants.{NotFormula}
 use Rattle.std.specs.declared.result.Result.the-variants.{Ok, Err}
 use Rattle.grammar.proofs.Automaton.{run-text, awaits-none}
 use Rattle.grammar.proofs.Basics.{basics-good}

@@ -5,10 +5,10 @@ use mathlib.Core.List.{List, [], _∷_, _++_, append-nil, append-assoc}
 use Prim.Native.Nat.{ℕ, _+_, _≤_, _<_}
 use native.Mathlib.Omega.{arith}
 use lib.ListN.{length, take, drop, getD, length-append, take-append-drop}
-use Rattle.std.proofs.shelf.Lists.{take-at, take-more, take-take, take-all, drop-all}
+use Rattle.std.proofs.shelf.Lists.{take-at, take-more, take-take, drop-all}
 use Rattle.std.proofs.shelf.Tests.{cases-lt, cases-order}
 use Rattle.grammar.specs.Symbols.{symbol}
-use Rattle.grammar.specs.Formula.{Formula, nesting, joins}
+use Rattle.grammar.specs.Formula.{Formula}
 use Rattle.grammar.specs.Texts.{Text, Begins, FirstWrong, NoFormula}
 use Rattle.grammar.specs.Scanning.{Awaited, step, run, Stands, Breaks, Found}
 use Rattle.grammar.specs.Scanning.Awaited.{formula}

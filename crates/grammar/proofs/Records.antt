@@ -10,9 +10,9 @@ use lib.ListN.{length, getD, take, drop, set, length-append, take-append-drop}
 use Rattle.std.proofs.shelf.Lists.{getD-append-left, getD-push, getD-at, getD-take, take-at, take-more-set, length-push, length-take-le, drop-more}
 use Rattle.std.proofs.shelf.Tests.{ltb-true, lt-ltb, and-parts, and-from, cases-lt, cond-true, cond-false}
 use Rattle.grammar.specs.Formula.{Formula}
-use Rattle.grammar.specs.Formula.Formula.{falsum, letter, joined}
+use Rattle.grammar.specs.Formula.Formula.{falsum, joined}
 use Rattle.grammar.specs.Contents.{formula-at, holds, added, Fitting, Base, Once, AllFitting}
-use Rattle.grammar.specs.Records.{meaning, formulas-after, formulas, parts-below, Founded, MadeOf, One-making}
+use Rattle.grammar.specs.Records.{meaning, formulas-after, formulas, parts-below, Founded, One-making}
 use Rattle.grammar.specs.declared.node.Node.{Node}
 use Rattle.grammar.specs.declared.node.Node.the-variants.{Falsum, Letter, Joined}
 use Rattle.grammar.proofs.Adding.{added-base, added-once, added-fitting}

@@ -5,7 +5,7 @@ use mathlib.Core.Logic.{⊎-elim}
 use mathlib.Core.List.{List, [], _∷_}
 use Prim.Native.Nat.{ℕ, zero, suc, _<_}
 use native.Mathlib.Omega.{arith}
-use lib.ListN.{length, take}
+use lib.ListN.{length}
 use Rattle.std.proofs.shelf.Lists.{getD-take, length-take-le}
 use Rattle.std.proofs.shelf.Tests.{eqb-true, eq-eqb, and-parts, and-from, or-cases, or-left, or-right, cases-order, cases-bool, both-ways, true≢false}
 use Rattle.grammar.specs.Formula.{Formula}

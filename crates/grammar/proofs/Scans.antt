@@ -4,18 +4,17 @@ use mathlib.Core.Logic.{⊎-elim}
 use mathlib.Core.List.{List, [], _∷_, _++_, append-assoc}
 use Prim.Native.Nat.{ℕ, _+_, max, _≤_, _<_}
 use native.Mathlib.Omega.{arith}
-use native.Mathlib.Nat.{add-zero}
 use lib.ListN.{length, drop, getD, length-append}
 use Rattle.std.proofs.shelf.Lists.{drop-more, getD-past}
 use Rattle.std.proofs.shelf.Tests.{cases-lt}
 use Rattle.grammar.specs.Symbols.{symbol, sign}
 use Rattle.grammar.specs.Formula.{Formula, nesting, joins}
 use Rattle.grammar.specs.Texts.{Text, bracketed}
-use Rattle.grammar.specs.Scanning.{Awaited, State, step, run, Stands, Goes, Breaks, Found}
+use Rattle.grammar.specs.Scanning.{Awaited, step, run, Goes, Breaks, Found}
 use Rattle.grammar.specs.Scanning.Awaited.{formula, a-sign, close}
 use Rattle.grammar.specs.Scanning.State.{wrong, awaits}
 use Rattle.grammar.specs.declared.connective.Connective.{Connective}
-use Rattle.grammar.specs.declared.connective.Connective.the-variants.{And, Or, Implies}
+use Rattle.grammar.specs.declared.connective.Connective.the-variants.{Implies}
 use Rattle.grammar.specs.declared.symbol.Symbol.{Symbol}
 use Rattle.grammar.specs.declared.symbol.Symbol.the-variants.{Falsum, Letter, Not, Open, Close, Sign, Other}
 use Rattle.grammar.proofs.Unambiguity.{bracketed-append}

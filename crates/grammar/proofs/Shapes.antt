@@ -8,13 +8,13 @@ use lib.ListN.{length, drop, getD, length-append, length-drop}
 use Rattle.std.proofs.shelf.Lists.{drop-drop, drop-at, getD-drop}
 use Rattle.grammar.specs.Symbols.{symbol, sign, IsLetter}
 use Rattle.grammar.specs.Formula.{Formula}
-use Rattle.grammar.specs.Texts.{Text, bracketed}
+use Rattle.grammar.specs.Texts.{Text}
 use Rattle.grammar.specs.Formula.Formula.{falsum, letter, joined}
 use Rattle.grammar.specs.Scanning.{Stands}
 use Rattle.grammar.specs.declared.connective.Connective.{Connective}
-use Rattle.grammar.specs.declared.connective.Connective.the-variants.{And, Or, Implies}
+use Rattle.grammar.specs.declared.connective.Connective.the-variants.{Implies}
 use Rattle.grammar.specs.declared.symbol.Symbol.{Symbol}
-use Rattle.grammar.specs.declared.symbol.Symbol.the-variants.{Falsum, Letter, Not, Open, Close, Sign, Other}
+use Rattle.grammar.specs.declared.symbol.Symbol.the-variants.{Falsum, Letter, Not, Open, Sign}
 use Rattle.grammar.proofs.Unambiguity.{bracketed-append}
 use Rattle.grammar.proofs.Automaton.{symbol-letter, symbol-sign}
 

@@ -1,11 +1,10 @@
 -- How the text at a place is spelled from those of its parts.
-use mathlib.Core.Path.{_≡_, refl, sym, ap, subst, _∙_}
-use mathlib.Core.Bool.{true}
+use mathlib.Core.Path.{_≡_, refl, sym, ap, _∙_}
 use mathlib.Core.List.{List, [], _∷_, _++_}
 use Prim.Native.Nat.{ℕ, _+_, _≤_, _<_}
 use native.Mathlib.Omega.{arith}
 use lib.Dec.{ltb}
-use lib.ListN.{length, getD, take, length-append}
+use lib.ListN.{length, length-append}
 use Rattle.std.proofs.shelf.Tests.{and-parts, ltb-true}
 use Rattle.grammar.specs.Formula.{Formula}
 use Rattle.grammar.specs.Formula.Formula.{falsum, letter, joined}
@@ -16,7 +15,6 @@ use Rattle.grammar.specs.Records.{MadeOf}
 use Rattle.grammar.specs.Writing.{text-at}
 use Rattle.grammar.specs.declared.connective.Connective.{Connective}
 use Rattle.grammar.specs.declared.connective.Connective.the-variants.{And, Or, Implies}
-use Rattle.grammar.specs.declared.node.Node.{Node}
 use Rattle.grammar.specs.declared.node.Node.the-variants.{Falsum, Letter, Joined}
 use Rattle.grammar.proofs.Entries.{falsum-at}
 use Rattle.grammar.proofs.Sameness.{one-place}

@@ -5,6 +5,7 @@ pub mod Texts
 pub mod WrittenText
 pub mod Contents
 pub mod TextLaws
+pub mod EnteringLaws
 pub mod Records
 pub mod Refusals
 pub mod Reading

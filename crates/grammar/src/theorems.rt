@@ -1,4 +1,5 @@
 // What holds of every text and of every reading. Each function stands for the theorem that its contract states.
+ghost use Rattle.grammar.specs.EnteringLaws.{Entering-laws};
 ghost use Rattle.grammar.specs.Examples.{Examples};
 ghost use Rattle.grammar.specs.Reading.{One-answer};
 ghost use Rattle.grammar.specs.Records.{One-making};
@@ -18,6 +19,11 @@ pub fn texts_agree()
 // A text that is read into a store has no two answers, and no two lists of formulas that the store then holds.
 pub fn reading_has_one_answer()
     ensures { λ _. ⌜ One-answer ⌝ }
+{}
+
+// Entering a formula keeps every place, and adds parts of it alone, none twice.
+pub fn entering_adds_parts()
+    ensures { λ _. ⌜ Entering-laws ⌝ }
 {}
 
 // Where each formula is held once, a formula is made of others in one way.

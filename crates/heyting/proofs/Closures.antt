@@ -3,7 +3,8 @@ use mathlib.Core.Path.{_≡_, refl, sym, ap, _∙_, subst}
 use mathlib.Core.Bool.{Bool, true, false, cond, _&&_, _||_, or-false}
 use mathlib.Core.List.{List}
 use mathlib.Core.Logic.{_⊎_, inl, inr, ⊎-elim}
-use Prim.Native.Nat.{ℕ, _+_, _^_, _≤_, _<_}
+use Prim.Native.Nat.{ℕ, zero, suc, _+_, _^_, _≤_, _<_}
+use native.Mathlib.Numerals.{add-one}
 use native.Mathlib.Omega.{arith}
 use borrow.Author.Count.{below-more}
 use lib.Bits.{bitOr, or-lt}
@@ -12,6 +13,7 @@ use lib.ListN.{getD, length}
 use Rattle.std.specs.Orderings.{Decides}
 use Rattle.std.proofs.shelf.Tests.{and-parts, and-from, or-cases, or-left, or-right, eqb-true, eq-eqb}
 use Rattle.heyting.specs.Loading.{Loadable}
+use Rattle.heyting.specs.Meaning.{Meaning}
 use Rattle.heyting.specs.Order.{Order}
 use Rattle.heyting.specs.Order.Order.{same, step}
 use Rattle.heyting.specs.Tables.{table, related, reflexive, transitive, Within, kripke}
@@ -74,9 +76,6 @@ module _ (n : ℕ) (above : ℕ → ℕ → Bool) (ordered : (reflexive n above 
       ordered-from n after (λ a ha. is a a ha ∙ old a a (refl-at n above ordered a ha))
       (λ a b c ha hb hc p q. is a c ha ∙ related-trans a b c ha hb hc (sym (is a b ha) ∙ p) (sym (is b c hb) ∙ q))
 
-  pub related-grows : (w x : ℕ) → above w x ≡ true → related above u v w x ≡ true
-  related-grows = old
-
   pub related-has : related above u v u v ≡ true
   related-has = new u v (refl-at n above ordered u hu) (refl-at n above ordered v hv)
 
@@ -117,7 +116,7 @@ closed-more n pairs k above after good ordered hk is half = (
       (λ p. order-trans (half .0 a u ha hu (p .0)) (step (k, hk, refl) (half .0 v b hv hb (p .1))))
       (back n above ordered u v hu hv a b (sym (is a b ha) ∙ e)),
   below-more (λ i. after (getD pairs i (0, 0) .0) (getD pairs i (0, 0) .1) ≡ true) k
-      (λ i h. is _ _ (good .named i (omega arith) .0) ∙ related-grows n above ordered u v hu hv _ _ (half .1 i h))
+      (λ i h. is _ _ (good .named i (omega arith) .0) ∙ old n above ordered u v hu hv _ _ (half .1 i h))
       (is u v hu ∙ related-has n above ordered u v hu hv),
 )
   where
@@ -152,3 +151,23 @@ grown-above n up after u v rows w x h = ap (λ y. holds y x) (rows w h) ∙ grow
 
 pub closure-frame : (n : ℕ) (pairs : List (ℕ × ℕ)) (above : ℕ → ℕ → Bool) → ((u v : ℕ) → u < n → v < n → Decides (above u v) (Order pairs u v)) → Frame-of n pairs (kripke n above)
 closure-frame n pairs above c = told-by n _ (Order pairs) (kripke n above) (λ u v hu hv. c u v hu hv .0) (λ u v hu hv. c u v hu hv .1) (kripke-worlds n above)
+
+-- the order of the first pairs, one put in after another
+abbrev upto : List (ℕ × ℕ) → ℕ → ℕ → ℕ → Bool
+upto pairs zero u v = eqb u v
+upto pairs (suc k) u v = related (upto pairs k) (getD pairs k (0, 0) .0) (getD pairs k (0, 0) .1) u v
+
+built : (n : ℕ) (pairs : List (ℕ × ℕ)) → Loadable n pairs → (k : ℕ) → k ≤ length pairs → ((reflexive n (upto pairs k) && transitive n (upto pairs k)) ≡ true) × Half-closed n pairs k (upto pairs k)
+built n pairs good zero h = (ordered-alone n eqb (λ u v _. refl), closed-none n pairs eqb (λ u v _. refl))
+built n pairs good (suc k) h =
+    let b = built n pairs good k (omega arith) in
+    let here = good .named k h in (
+      related-ordered n (upto pairs k) (b .0) _ _ (here .0) (here .1) (upto pairs (suc k)) (λ w x _. refl),
+      subst (λ j. Half-closed n pairs j (upto pairs (suc k))) (add-one k) (closed-more n pairs k (upto pairs k) (upto pairs (suc k)) good (b .0) h (λ w x _. refl) (b .1)),
+    )
+
+pub some-frame : (n : ℕ) (pairs : List (ℕ × ℕ)) → Loadable n pairs → (m : Meaning) × Frame-of n pairs m
+some-frame n pairs good =
+    let b = built n pairs good (length pairs) (omega arith) in
+    let above = upto pairs (length pairs) in
+    (kripke n above, closure-frame n pairs above (closed-all n pairs above good (b .0) (b .1)))

@@ -5,12 +5,12 @@ use mathlib.Core.List.{List, [], _∷_, _++_, map}
 use Prim.Native.Nat.{ℕ, _+_, _≤_, _<_}
 use native.Mathlib.Omega.{arith}
 use lib.Dec.{leb, ltb}
-use lib.ListN.{length, getD, set, take, length-append, length-drop}
+use lib.ListN.{length, getD, set, take}
 use Rattle.std.proofs.shelf.Lists.{getD-append-left, getD-take, getD-map, length-map, length-take-le, take-all, take-more}
 use Rattle.std.proofs.shelf.Tests.{and-parts, leb-true, ltb-true}
 use Rattle.grammar.specs.Contents.{formula-at, lettered, AllFitting}
 use Rattle.grammar.specs.Formula.{Formula}
-use Rattle.grammar.specs.Formula.Formula.{falsum, letter, joined}
+use Rattle.grammar.specs.Formula.Formula.{falsum}
 use Rattle.grammar.specs.Records.{MadeOf}
 use Rattle.grammar.specs.Writing.{put}
 use Rattle.grammar.specs.declared.connective.Connective.{Connective}

@@ -1,17 +1,17 @@
 -- The examples, from the definitions.
 use mathlib.Core.Path.{_≡_, refl, sym, ap, subst, _∙_}
-use mathlib.Core.Bool.{Bool, true, false, false≢true}
+use mathlib.Core.Bool.{Bool, true, false≢true}
 use mathlib.Core.Logic.{_⊎_, inl, inr, ⊎-elim, _↔_}
 use mathlib.Core.List.{List, [], _∷_}
-use Prim.Native.Nat.{ℕ, zero, suc, _≤_, _<_}
+use Prim.Native.Nat.{ℕ, zero, suc, _<_}
 use native.Mathlib.Omega.{arith}
 use lib.Dec.{leb, lit<, lit≤}
-use lib.ListN.{getD, length}
+use lib.ListN.{getD}
 use Rattle.std.specs.Orderings.{Decides}
 use Rattle.std.proofs.shelf.Tests.{and-parts, ltb-true}
 use Rattle.heyting.specs.Examples.{Two-stages, Examples}
 use Rattle.heyting.specs.Layers.{product}
-use Rattle.heyting.specs.Loading.{Named, Loadable}
+use Rattle.heyting.specs.Loading.{Named}
 use Rattle.heyting.specs.Meaning.{Meaning, Member}
 use Rattle.heyting.specs.Order.{Order}
 use Rattle.heyting.specs.Order.Order.{same, step}

@@ -6,25 +6,13 @@ use Prim.Native.Nat.{ℕ, _-_, _^_, _≤_, _<_}
 use native.Mathlib.Omega.{arith}
 use lib.Bits.{bitAnd, bitOr, and-lt, or-lt}
 use lib.Pow.{pow-pos, pow-mono}
-use Rattle.std.specs.Orderings.{Decides}
 use Rattle.std.proofs.shelf.Tests.{and-parts, and-from, or-cases, or-left, or-right, both-ways}
 use Rattle.std.proofs.shelf.Ways.{same-from-decides}
 use Rattle.heyting.specs.Loading.{In-range}
 use Rattle.heyting.specs.Meaning.{Meaning, Lawful, Member}
+use Rattle.heyting.specs.Tables.{of-sets}
 use Rattle.heyting.specs.Worlds.{holds, Has, Of-worlds}
 use Rattle.heyting.proofs.Sets.{holds-and, holds-or, holds-zero, holds-top, extent, inside-at, inside-from}
-
--- an algebra of sets of n worlds
-abbrev pub of-sets : ℕ → (ℕ → Bool) → (ℕ → ℕ → ℕ) → Meaning
-of-sets n member arrow = record {
-  span = 2 ^ n;
-  member = member;
-  bottom = 0;
-  top = 2 ^ n - 1;
-  meet = bitAnd;
-  join = bitOr;
-  arrow = arrow;
-}
 
 absorb-and : (x y : Bool) → (x && (x || y)) ≡ x
 absorb-and true y = refl

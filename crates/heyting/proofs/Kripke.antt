@@ -1,11 +1,11 @@
 -- The algebra that a table of worlds makes is told by the table, world by world.
 use mathlib.Core.Path.{_≡_, refl, sym, _∙_}
 use mathlib.Core.Bool.{Bool, true, _&&_}
-use Prim.Native.Nat.{ℕ, _^_, _≤_, _<_}
+use Prim.Native.Nat.{ℕ, _^_, _<_}
 use Rattle.std.proofs.shelf.Tests.{and-parts, and-from, ltb-true, lt-ltb}
 use Rattle.heyting.specs.Loading.{In-range}
 use Rattle.heyting.specs.Meaning.{Lawful}
-use Rattle.heyting.specs.Tables.{each, implies, kripke, reflexive, transitive}
+use Rattle.heyting.specs.Tables.{implies, kripke, reflexive, transitive}
 use Rattle.heyting.specs.Worlds.{holds, Of-worlds}
 use Rattle.heyting.proofs.Frames.{worlds-lawful}
 use Rattle.heyting.proofs.Sets.{each-at, each-from, collect-lt, collect-at, implies-at, implies-from}

@@ -1,5 +1,5 @@
 -- The order of a Heyting algebra, on its members: an element is a number with the fact that it is a member.
-use mathlib.Core.Path.{_≡_, refl, sym, _∙_, ap, subst}
+use mathlib.Core.Path.{_≡_}
 use Prim.Native.Nat.{ℕ}
 use Rattle.heyting.specs.Meaning.{Meaning, Member, Below, Lawful}
 

@@ -6,5 +6,6 @@ pub mod Frames
 pub mod Kripke
 pub mod Closures
 pub mod Values
+pub mod Meets
 pub mod Evaluating
 pub mod Examples

@@ -6,9 +6,9 @@ use native.Mathlib.Omega.{arith}
 use lib.Dec.{eqb}
 use borrow.Author.Tests.{eqb-true, eq-eqb}
 use Rattle.std.proofs.shelf.Tests.{and-parts, and-from}
-use Rattle.heyting.specs.Meaning.{Meaning, Member, Below, Lawful}
+use Rattle.heyting.specs.Meaning.{Meaning, Member, Lawful}
 use Rattle.heyting.specs.Layers.{closure, fixed, nucleus, regular, single}
-use Rattle.heyting.proofs.Lattice.{Elem, _⊑_, top, bottom, meet, join, arrow, below-refl, below-trans, antisym, meet-left, meet-right, meet-glb, join-left, join-right, join-lub, bottom-least, top-greatest, curry, uncurry, apply, weaken, below-same}
+use Rattle.heyting.proofs.Lattice.{Elem, _⊑_, top, bottom, meet, join, arrow, below-refl, below-trans, antisym, meet-left, meet-right, meet-glb, join-left, join-right, join-lub, bottom-least, top-greatest, curry, apply, weaken, below-same}
 
 module _ {m : Meaning} (l : Lawful m) (e : Elem m) where
   unfoldable pub close : Elem m → Elem m

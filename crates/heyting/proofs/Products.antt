@@ -1,8 +1,7 @@
 -- The pairs of members of two Heyting algebras make one.
-use mathlib.Core.Path.{_≡_, refl, sym, ap, ap₂, _∙_, subst}
-use mathlib.Core.Bool.{Bool, true, false, cond, _&&_}
-use Prim.Native.Nat.{ℕ, _+_, _*_, _/_, _%_, _<_, _≤_}
-use native.Mathlib.Omega.{arith}
+use mathlib.Core.Path.{_≡_, refl, sym, ap, ap₂, _∙_}
+use mathlib.Core.Bool.{Bool, true, false, cond}
+use Prim.Native.Nat.{ℕ, _*_, _/_, _%_, _≤_}
 use native.Mathlib.Nat.{div-lt-iff-lt-mul, div-add-mod'}
 use lib.Dec.{leb}
 use Rattle.std.proofs.shelf.Bits.{div-mul-add, mod-mul-add, mul-le}

@@ -1,17 +1,17 @@
 -- Sets of worlds as numbers: which worlds the operations' results hold.
-use mathlib.Core.Path.{_≡_, refl, sym, ap, ap₂, _∙_, subst}
-use mathlib.Core.Bool.{Bool, true, false, cond, not, _&&_, _||_, false≢true}
-use mathlib.Core.Logic.{_⊎_, inl, inr, ⊎-elim}
-use Prim.Native.Nat.{ℕ, zero, suc, _+_, _-_, _*_, _/_, _%_, _^_, _≤_, _<_}
-use native.Mathlib.Nat.{mod-lt, pow-suc, zero-lt-suc, div-add-mod', div-eq-of-lt, div-self, mod-eq-of-lt, not-suc-le-zero, le-of-suc-le-suc, div-one}
+use mathlib.Core.Path.{_≡_, refl, sym, ap, ap₂, _∙_}
+use mathlib.Core.Bool.{Bool, true, false, cond, _&&_, _||_, false≢true}
+use mathlib.Core.Logic.{⊎-elim}
+use Prim.Native.Nat.{ℕ, zero, suc, _+_, _-_, _/_, _%_, _^_, _≤_, _<_}
+use native.Mathlib.Nat.{mod-lt, zero-lt-suc, div-eq-of-lt, div-self, mod-eq-of-lt, not-suc-le-zero, le-of-suc-le-suc, div-one}
 use native.Mathlib.Numerals.{add-one}
 use native.Mathlib.Omega.{arith}
-use lib.Dec.{eqb, ltb}
+use lib.Dec.{eqb}
 use lib.Arith.{lt-one}
 use lib.Pow.{pow-pos, pow-lt, pow-mono}
 use lib.Bits.{bitAnd, bitOr, and-shr, or-shr, and-mod, or-mod, and-mask, or-lt, and-le-l, shifted-even}
-use Rattle.std.proofs.shelf.Bits.{shr-shr, shl-shr, pow-add, shr-below}
-use Rattle.std.proofs.shelf.Tests.{eq-eqb, ne-eqb, eqb-true, eqb-false, cases-order, cases-bool, both-ways, and-from}
+use Rattle.std.proofs.shelf.Bits.{shr-shr, shl-shr, pow-add}
+use Rattle.std.proofs.shelf.Tests.{eq-eqb, ne-eqb, eqb-true, cases-order, cases-bool, both-ways, and-from}
 use Rattle.std.proofs.shelf.Ways.{decides-below-and, same-from-decides}
 use Rattle.heyting.specs.Tables.{each, collect, implies}
 use Rattle.heyting.specs.Worlds.{holds}

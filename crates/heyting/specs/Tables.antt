@@ -29,17 +29,21 @@ closed-at n above a u = each (λ v. implies (holds a u && above u v) (holds a v)
 abbrev pub implied-at : ℕ → (ℕ → ℕ → Bool) → ℕ → ℕ → ℕ → Bool
 implied-at n above a b u = each (λ v. implies (above u v && holds a v) (holds b v)) n
 
--- the frame of n worlds in which world v is at or above world u where `above u v`
-abbrev pub kripke : ℕ → (ℕ → ℕ → Bool) → Meaning
-kripke n above = record {
+-- an algebra of sets of n worlds
+abbrev pub of-sets : ℕ → (ℕ → Bool) → (ℕ → ℕ → ℕ) → Meaning
+of-sets n member arrow = record {
   span = 2 ^ n;
-  member = λ a. ltb a (2 ^ n) && each (closed-at n above a) n;
+  member = member;
   bottom = 0;
   top = 2 ^ n - 1;
   meet = bitAnd;
   join = bitOr;
-  arrow = λ a b. collect (implied-at n above a b) n;
+  arrow = arrow;
 }
+
+-- the frame of n worlds in which world v is at or above world u where `above u v`
+abbrev pub kripke : ℕ → (ℕ → ℕ → Bool) → Meaning
+kripke n above = of-sets n (λ a. ltb a (2 ^ n) && each (closed-at n above a) n) (λ a b. collect (implied-at n above a b) n)
 
 -- whether `above` is reflexive, and transitive, on the worlds below n
 abbrev pub reflexive : ℕ → (ℕ → ℕ → Bool) → Bool

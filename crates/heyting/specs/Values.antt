@@ -14,7 +14,7 @@ operation m And = m .meet
 operation m Or = m .join
 operation m Implies = m .arrow
 
--- under a valuation, which gives its first element to the letter a; a letter that it gives none has the bottom
+-- under a valuation, which gives its first element to the letter a; a letter past its last has the bottom
 abbrev pub value : Meaning → List ℕ → Formula → ℕ
 value m v falsum = m .bottom
 value m v (letter c) = getD v (c - 97) (m .bottom)
@@ -26,8 +26,8 @@ meet-from m v a [] = a
 meet-from m v a (f ∷ fs) = meet-from m v (m .meet a (value m v f)) fs
 
 -- the meet of formulas is that of their values, from the top on; of none it is the top
-abbrev pub meet-of : Meaning → List ℕ → List Formula → ℕ
-meet-of m v fs = meet-from m v (m .top) fs
+abbrev pub meet-all : Meaning → List ℕ → List Formula → ℕ
+meet-all m v fs = meet-from m v (m .top) fs
 
 -- a valuation by members
 abbrev pub By-members : Meaning → List ℕ → Type 0

@@ -1,8 +1,8 @@
 // What holds of every algebra. Each function stands for the theorem that its contract states.
 ghost use Rattle.heyting.specs.Examples.{Examples};
-ghost use Rattle.heyting.specs.Theorems.{Frames, Layers, Values-are-members};
+ghost use Rattle.heyting.specs.Theorems.{Frames, Layers, Values-are-members, Meets-are-greatest};
 
-// A frame's worlds and pairs make one algebra, and it obeys the laws.
+// Worlds and pairs that can be loaded make an algebra, no two, and it obeys the laws.
 pub fn frames_are_algebras()
     ensures { λ _. ⌜ Frames ⌝ }
 {}
@@ -15,6 +15,11 @@ pub fn layers_are_algebras()
 // Under a valuation by members every formula has a member for its value.
 pub fn values_are_members()
     ensures { λ _. ⌜ Values-are-members ⌝ }
+{}
+
+// The meet of a list of formulas is the greatest member below the value of each.
+pub fn meets_are_greatest()
+    ensures { λ _. ⌜ Meets-are-greatest ⌝ }
 {}
 
 // Two stages, three worlds in a ring, and two single worlds paired.

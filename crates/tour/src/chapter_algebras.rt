@@ -14,7 +14,7 @@ use std::io;
 use weighing::evaluate::evaluate;
 use weighing::valuation::Valuation;
 
-// A letter is received (0), catalogued (1), reviewed (2) and released (3); a review may reopen the catalogue.
+// A document is received (0), catalogued (1), reviewed (2) and released (3); a review may reopen the catalogue.
 const STAGES: u32 = 4;
 
 const STEPS: [(u32, u32); 4] = [(0, 1), (1, 2), (2, 1), (2, 3)];
@@ -24,7 +24,7 @@ const CATALOGUED: u32 = 14;
 
 const RELEASED: u32 = 8;
 
-pub fn tell(rt: &LibcRuntime) -> Result<(), AnyError> {
+pub(crate) fn tell(rt: &LibcRuntime) -> Result<(), AnyError> {
     rt.println("\nAlgebras")?;
     let mut frame = Frame::new();
     rt.println("\nA place for a frame holds one world:")?;
@@ -126,7 +126,7 @@ fn tell_load(
     pairs: &[(u32, u32)],
 ) -> io::Result<()> {
     let count = pairs.len();
-    print!(rt, "  load {worlds} worlds, {count} pairs: ")?;
+    print!(rt, "  load worlds {worlds}, pairs {count}: ")?;
     match frame.load(worlds, pairs) {
         Ok(()) => rt.println("loaded"),
         Err(refusal) => tell_refusal(rt, refusal),

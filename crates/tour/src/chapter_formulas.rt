@@ -9,7 +9,7 @@ use std::io;
 
 const LONGEST_TEXT: usize = 1024;
 
-pub fn tell(rt: &LibcRuntime) -> Result<(), AnyError> {
+pub(crate) fn tell(rt: &LibcRuntime) -> Result<(), AnyError> {
     rt.println("Formulas")?;
     tell_making(rt, 26)?;
     tell_making(rt, 40)

@@ -115,6 +115,8 @@ fn check_frame(frame: &Frame, order: Relation, worlds: u32) -> Result<(), Fail>
     requires { ⌜ worlds ≤ 3 ⌝ }
 {
     check_eq(frame.span(), 1 << worlds)?;
+    check_eq(frame.bottom(), 0)?;
+    check_eq(frame.top(), (1 << worlds) - 1)?;
     for a in 0..9 {
         let is_member = order.is_member(worlds, a);
         check_eq(frame.contains(a), is_member)?;

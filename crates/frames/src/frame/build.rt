@@ -1,9 +1,9 @@
 // Builds the order of a frame, pair by pair.
 ghost use mathlib.Core.Path.{_≡_};
-ghost use Prim.Native.Nat.{ℕ, _<_, _≤_};
+ghost use Prim.Native.Nat.{ℕ, _<_};
 ghost use lib.Dec.{eqb};
 ghost use Rattle.std.specs.Orderings.{Decides};
-ghost use Rattle.heyting.specs.Loading.{Loadable};
+ghost use Rattle.heyting.specs.Loading.{In-range, Loadable};
 ghost use Rattle.heyting.specs.Order.{Order};
 ghost use Rattle.heyting.specs.Tables.{table, related};
 use crate::frame::Frame;
@@ -12,7 +12,7 @@ use crate::frame::sets::has;
 impl Frame {
     // Worlds of which none is above another.
     fn discrete(worlds: u8) -> Frame
-        requires { ⌜ (1 ≤ worlds) × (worlds ≤ 12) ⌝ }
+        requires { ⌜ In-range worlds ⌝ }
         ensures worlds { λ r. ⌜ r .worlds ≡ worlds ⌝ }
         ensures above { λ r. ⌜ ((u v : ℕ) → u < worlds → table (r .up) u v ≡ eqb u v) ⌝ }
     {

@@ -26,14 +26,16 @@ impl<A: Algebra, B: Algebra> Product<A, B> {
     pub fn new(first: A, second: B) -> Result<Product<A, B>, NotMade<A, B>>
         ensures { λ r. ⌜ Cases r (λ p. (p .first ≡ first) × (p .second ≡ second) × Pairable (A·Algebra .means first) (B·Algebra .means second)) (λ e. (e .refusal ≡ SpanTooLarge) × (e .first ≡ first) × (e .second ≡ second) × (Pairable (A·Algebra .means first) (B·Algebra .means second) → ⊥)) ⌝ }
     {
-        if first.span() as u64 * second.span() as u64 > MOST_SPAN {
-            return Err(NotMade {
-                refusal: Refusal::SpanTooLarge,
-                first,
-                second,
-            });
+        let product = Product { first, second };
+        if product.stands() {
+            return Ok(product);
         }
-        Ok(Product { first, second })
+        let Product { first, second } = product;
+        Err(NotMade {
+            refusal: Refusal::SpanTooLarge,
+            first,
+            second,
+        })
     }
 
     // Whether making it would not have been refused.

@@ -1,18 +1,11 @@
-use mathlib.Core.Path.{_≡_, refl, sym, ap, subst, _∙_}
+use mathlib.Core.Path.{sym, ap, _∙_}
 use native.Mathlib.Omega.{arith}
-use Prim.Native.Nat.{ℕ, _+_}
 use mathlib.Core.Logic.{⊎-elim}
-use lib.ListN.{length, getD}
-use mathlib.Core.List.{List, _∷_}
+use mathlib.Core.List.{_∷_}
 use Rattle.std.proofs.shelf.Results.{err-from-errBy}
-use Rattle.std.specs.Results.{Cases, ErrBy, isErr}
-use Rattle.std.specs.declared.result.Result.{Result}
-use Rattle.grammar.specs.Scanning.{step, Found, Breaks}
+use Rattle.grammar.specs.Scanning.{step}
 use Rattle.grammar.specs.Scanning.Awaited.{formula, a-sign, close}
-use Rattle.grammar.specs.Scanning.State.{wrong}
-use Rattle.grammar.specs.Symbols.{symbol}
-use Rattle.grammar.specs.declared.symbol.Symbol.{Symbol}
-use Rattle.grammar.specs.declared.symbol.Symbol.the-variants.{Falsum, Letter, Not, Open, Close, Sign, Other}
+use Rattle.grammar.specs.declared.symbol.Symbol.the-variants.{Falsum, Letter, Not, Open, Sign}
 use Rattle.grammar.proofs.Scans.{inside, bounds, found-falsum, found-letter, found-not, found-joined, breaks-here, breaks-not, breaks-first, breaks-sign, breaks-second, breaks-close, no-formula, no-sign, no-close}
 use Rattle.scanner.proofs.scan.+scan.Needs as need
 

@@ -6,13 +6,13 @@ use Rattle.grammar.specs.Symbols.{symbol}
 use Rattle.grammar.specs.Formula.{Formula}
 use Rattle.grammar.specs.Formula.Formula.{falsum, joined}
 use mathlib.Core.List.{List}
-use Rattle.grammar.specs.Contents.{formula-at, entered, Fitting}
-use Rattle.formulas.specs.Stores.{contents, capacity}
+use Rattle.grammar.specs.Contents.{Fitting}
+use Rattle.formulas.specs.Stores.{contents}
 use Rattle.grammar.specs.Reading.{Enters}
 use Rattle.grammar.specs.Scanning.{Stands}
 use Rattle.formulas.specs.declared.store.Store.{Store}
 use Rattle.grammar.specs.declared.connective.Connective.{Connective}
-use Rattle.grammar.specs.declared.connective.Connective.the-variants.{And, Or, Implies}
+use Rattle.grammar.specs.declared.connective.Connective.the-variants.{Implies}
 use Rattle.grammar.specs.declared.symbol.Symbol.the-variants.{Sign}
 use Rattle.grammar.proofs.Shapes.{AtNot, AtOpen, shape, at-letter, at-not, at-open, at-falsum}
 use Rattle.formulas.proofs.Stores.{count-is-used, stay-same, stay-then, same-capacity}

@@ -3,9 +3,8 @@ use Prim.Native.Nat.{ℕ, _+_}
 use native.Mathlib.Omega.{arith}
 use lib.ListN.{length}
 use Rattle.grammar.specs.Writing.{text-at}
-use Rattle.grammar.proofs.Spelling.{text-short, spelled-long}
+use Rattle.grammar.proofs.Spelling.{spelled-long}
 use Rattle.formulas.specs.Stores.{contents}
-use Rattle.formulas.specs.declared.store.Store.{Store}
 use Rattle.formulas.proofs.store.Store.+text_len.Needs as need
 use Rattle.formulas.proofs.store.Store.+text_len.Needs.{In-Joined, at·returns-in-Joined}
 

@@ -1,7 +1,7 @@
 use mathlib.Core.Path.{_≡_, refl, sym, ap, subst, _∙_}
 use Prim.Native.Nat.{min, _<_}
 use native.Mathlib.Omega.{arith}
-use lib.ListN.{length, set, take, length-set}
+use lib.ListN.{length}
 use Rattle.std.proofs.shelf.Lists.{take-more-set, drop-set-lt}
 use Rattle.grammar.specs.Records.{formulas}
 use Rattle.grammar.specs.declared.node.Node.the-variants.{Falsum}

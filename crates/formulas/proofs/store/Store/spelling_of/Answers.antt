@@ -4,10 +4,8 @@ use mathlib.Core.Logic.{⊎-elim}
 use mathlib.Core.List.{[], _∷_, _++_}
 use native.Mathlib.Omega.{arith}
 use Rattle.std.proofs.shelf.Tests.{false≢true}
-use Rattle.grammar.specs.Records.{MadeOf}
 use Rattle.grammar.specs.Writing.{text-at}
 use Rattle.grammar.specs.declared.connective.Connective.the-variants.{Implies}
-use Rattle.grammar.specs.declared.node.Node.the-variants.{Joined}
 use Rattle.grammar.proofs.Spelling.{parts-lower, spelled-falsum, spelled-letter, spelled-negation, spelled-joined}
 use Rattle.formulas.specs.Stores.{contents}
 use Rattle.formulas.specs.declared.store.Store.{Store}

@@ -1,11 +1,10 @@
 use mathlib.Core.Path.{_≡_, refl, sym, ap, _∙_}
-use mathlib.Core.Bool.{true, false, cond}
-use Prim.Native.Nat.{_<_, _^_, _*_, _%_}
+use mathlib.Core.Bool.{cond}
+use Prim.Native.Nat.{_<_, _^_}
 use lib.ListN.{getD}
 use lib.Bits.{bitOr, or-zero-r}
 use native.Mathlib.Omega.{arith}
 use Rattle.std.proofs.shelf.Bits.{one-shl}
-use Rattle.heyting.specs.Tables.{collect, implied-at, table}
 use Rattle.heyting.proofs.Sets.{collect-more, arrow-row}
 use Rattle.frames.proofs.frame.Frame.implication.Needs as need
 use Rattle.frames.proofs.frame.Frame.implication.Needs.{then-inside, else-inside}

@@ -1,10 +1,10 @@
-use mathlib.Core.Path.{_≡_, refl, sym, ap, _∙_}
-use mathlib.Core.Bool.{true, false}
+use mathlib.Core.Path.{_≡_, refl, sym, _∙_}
+use mathlib.Core.Bool.{true}
 use lib.ListN.{getD}
 use lib.Dec.{eqb}
 use lib.Bits.{bitAnd}
 use native.Mathlib.Omega.{arith}
-use Rattle.heyting.specs.Tables.{closed-at, table, implies}
+use Rattle.heyting.specs.Tables.{implies}
 use Rattle.heyting.specs.Worlds.{holds}
 use Rattle.heyting.proofs.Sets.{each-more, each-broken, member-row}
 use Rattle.frames.proofs.frame.Frame.is_closed.Needs as need
