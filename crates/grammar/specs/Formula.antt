@@ -1,13 +1,22 @@
 -- Formulas.
 use Prim.Native.Nat.{ℕ, _+_, max}
 use Rattle.grammar.specs.declared.connective.Connective.{Connective}
-use Rattle.grammar.specs.declared.connective.Connective.the-variants.{Implies}
+use Rattle.grammar.specs.declared.connective.Connective.the-variants.{And, Or, Implies}
 
 -- a letter is named by its byte
 pub data Formula : Type 0 where
   falsum : Formula
   letter : ℕ → Formula
   joined : Connective → Formula → Formula → Formula
+
+abbrev pub conjunction : Formula → Formula → Formula
+conjunction f g = Formula.joined And f g
+
+abbrev pub disjunction : Formula → Formula → Formula
+disjunction f g = Formula.joined Or f g
+
+abbrev pub implication : Formula → Formula → Formula
+implication f g = Formula.joined Implies f g
 
 abbrev pub negation : Formula → Formula
 negation f = Formula.joined Implies f Formula.falsum
