@@ -1,13 +1,12 @@
 -- What a citation stands for is one thing at most.
-use mathlib.Core.Path.{_≡_, refl, sym, _∙_, ap, ap₂, subst, subst₂}
-use mathlib.Core.List.{List, [], _∷_, List·Memᴰ}
-use Prim.Native.Nat.{ℕ, zero, suc, _≤_}
+use mathlib.Core.Path.{_≡_, sym, _∙_, ap, ap₂, subst}
+use mathlib.Core.List.{List, _∷_}
+use Prim.Native.Nat.{ℕ}
 use native.Mathlib.Omega.{arith}
-use Rattle.std.specs.declared.option.Option.{Option}
-use Rattle.std.specs.declared.option.Option.the-variants.{Some, None}
+use Rattle.std.specs.declared.option.Option.the-variants.{Some}
 use Rattle.grammar.specs.Formula.{Formula}
-use Rattle.fitch.specs.History.{History, Box, Line, line-at, outer, Stands, Reads, Shows, Cites}
-use Rattle.fitch.specs.Rules.{Cited, line, box, kind}
+use Rattle.fitch.specs.History.{History, Box, Line, line-at, outer, Stands, Reads, Shows}
+use Rattle.fitch.specs.Rules.{Cited, line, box}
 use Rattle.fitch.specs.Exact.{Cited-once}
 
 -- a line has one formula, and one list of boxes

@@ -1,14 +1,13 @@
 -- The end of a box with a box inside it.
-use mathlib.Core.Path.{_≡_, refl, sym, _∙_, ap}
-use mathlib.Core.List.{List, [], _∷_, List·Memᴰ}
+use mathlib.Core.Path.{_≡_, refl, ap}
+use mathlib.Core.List.{[], _∷_}
 use Prim.Native.Nat.{ℕ, zero, suc, _≤_}
 use native.Mathlib.Omega.{arith}
-use lib.ListN.{length, getD}
-use Rattle.std.specs.declared.option.Option.{Option}
+use lib.ListN.{length}
 use Rattle.std.specs.declared.option.Option.the-variants.{Some, None}
 use Rattle.grammar.specs.Formula.{Formula, implication}
-use Rattle.fitch.specs.History.{History, Box, Line, boxes, Stands, Open, Shows, Permits}
-use Rattle.fitch.specs.Rules.{line, box, Cited, Serves, Fits}
+use Rattle.fitch.specs.History.{Box, Line, Stands, Shows}
+use Rattle.fitch.specs.Rules.{box, Serves}
 use Rattle.fitch.specs.Example.{nested, Inner-box}
 use Rattle.fitch.specs.Exact.{AllReached}
 use Rattle.fitch.specs.declared.mode.Mode.{Mode}

@@ -1,25 +1,22 @@
 -- The records agree with the lines of the history: a box's first line says whether it is open, and where it ends.
-use mathlib.Core.Path.{_≡_, refl, sym, _∙_, ap, ap₂, subst}
+use mathlib.Core.Path.{_≡_, refl, sym, _∙_, ap, subst}
 use mathlib.Core.List.{List, [], _∷_, _++_}
 use mathlib.Core.Logic.{_⊎_, inl, inr}
 use Prim.Native.Nat.{ℕ, zero, suc, _+_, _-_, _≤_, _<_}
 use native.Mathlib.Omega.{arith}
-use native.Mathlib.Numerals.{add-one}
-use native.Mathlib.Decide.{decLt}
 use lib.ListN.{length, getD, set}
 use Rattle.std.specs.shelf.Lists.{All}
 use Rattle.std.specs.shelf.Maps.{nth}
-use Rattle.std.proofs.shelf.Maps.{nth-getD, nth-past}
+use Rattle.std.proofs.shelf.Maps.{nth-getD}
 use Rattle.std.proofs.shelf.Elements.{all-push, all-weaker}
 use Rattle.std.proofs.shelf.Lists.{length-push, length-set}
-use Rattle.std.specs.declared.option.Option.the-variants.{Some, None}
+use Rattle.std.specs.declared.option.Option.the-variants.{Some}
 use Rattle.grammar.specs.Formula.{Formula}
-use Rattle.grammar.specs.Formula.Formula.{falsum}
-use Rattle.fitch.specs.History.{Call, premise, begin, assume, step, close, History, Box, Line, count, outer, boxes, lines}
+use Rattle.fitch.specs.History.{premise, begin, assume, step, close, History, Box, Line, count, outer, boxes, lines}
 use Rattle.fitch.specs.Records.{innermost, Names, Reach, top-first, moved, table, Kept, plain, blank, with-end, ended, records, padded}
 use Rattle.fitch.specs.declared.rule.Reason.{Reason}
-use Rattle.fitch.specs.declared.rule.Reason.the-variants.{Premise, Assumption, Step}
-use Rattle.fitch.proofs.Nesting.{all-nth, nth-push, count-lines, Named, boxes-named, lines-named, named-innermost, Descend, boxes-descend, not-above}
+use Rattle.fitch.specs.declared.rule.Reason.the-variants.{Premise, Step}
+use Rattle.fitch.proofs.Nesting.{nth-push, count-lines, Named, boxes-named, named-innermost, Descend, boxes-descend, not-above}
 
 -- lists
 

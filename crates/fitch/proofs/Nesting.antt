@@ -1,6 +1,6 @@
 -- Boxes nest: the boxes that contain a line are known by the innermost of them.
-use mathlib.Core.Path.{_≡_, refl, sym, _∙_, ap, ap₂, subst}
-use mathlib.Core.List.{List, [], _∷_, _++_, map, List·Memᴰ, List·Memᴰ·head, List·Memᴰ·tail}
+use mathlib.Core.Path.{_≡_, refl, sym, _∙_, ap, subst}
+use mathlib.Core.List.{List, [], _∷_, _++_, List·Memᴰ, List·Memᴰ·tail}
 use mathlib.Core.Logic.{_⊎_, inl, inr}
 use Prim.Native.Nat.{ℕ, zero, suc, _+_, _-_, _≤_, _<_}
 use native.Mathlib.Omega.{arith}
@@ -11,7 +11,7 @@ use Rattle.std.proofs.shelf.Elements.{all-push, all-weaker}
 use Rattle.std.proofs.shelf.Lists.{length-push}
 use Rattle.std.specs.declared.option.Option.the-variants.{Some, None}
 use Rattle.grammar.specs.Formula.{Formula}
-use Rattle.fitch.specs.History.{Call, premise, begin, assume, step, close, History, Box, Line, count, outer, boxes, lines, Open}
+use Rattle.fitch.specs.History.{premise, begin, assume, step, close, History, Box, Line, count, outer, boxes, lines, Open}
 use Rattle.fitch.specs.Records.{innermost, Names}
 
 -- what holds of every element holds of one

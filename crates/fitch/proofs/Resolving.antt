@@ -1,5 +1,5 @@
 -- A step is permitted exactly where its rule fits what its citations stand for.
-use mathlib.Core.Path.{_≡_, refl, sym, _∙_, ap, ap₂, subst}
+use mathlib.Core.Path.{_≡_, refl, sym, _∙_, ap, subst}
 use mathlib.Core.List.{List, [], _∷_, map}
 use Prim.Native.Nat.{ℕ, zero, suc, _≤_, _<_}
 use native.Mathlib.Omega.{arith}
@@ -8,13 +8,12 @@ use Rattle.std.proofs.shelf.Lists.{ext-getD, getD-map, length-map}
 use Rattle.grammar.specs.Formula.{Formula}
 use Rattle.grammar.specs.Formula.Formula.{falsum}
 use Rattle.fitch.specs.History.{History, Cites, CitesAll, Permits}
-use Rattle.fitch.specs.Rules.{Cited, line, box, kind, kinds, Fits, Serves}
-use Rattle.fitch.specs.Exact.{Resolved, Reached, AllReached}
+use Rattle.fitch.specs.Rules.{Cited, line, kind, kinds, Fits, Serves}
+use Rattle.fitch.specs.Exact.{Reached, AllReached, Of-their-kinds}
 use Rattle.fitch.specs.declared.mode.Mode.{Mode}
 use Rattle.fitch.specs.declared.rule.Rule.{Rule}
 use Rattle.fitch.specs.declared.rule.Rule.the-variants.{Reiterate, AndIntro, AndLeft, AndRight, OrLeft, OrRight, OrElim, ImpIntro, ImpElim, ExFalso, Reductio}
-use Rattle.fitch.specs.declared.rule.Kind.{Kind}
-use Rattle.fitch.specs.declared.rule.Kind.the-variants.{Line as a-line, Box as a-box}
+use Rattle.fitch.specs.declared.rule.Kind.the-variants.{Line as a-line}
 use Rattle.fitch.proofs.Citing.{cited-once}
 
 -- a rule has at most three citations
@@ -31,8 +30,7 @@ kinds-few ImpElim = omega arith
 kinds-few ExFalso = omega arith
 kinds-few Reductio = omega arith
 
--- a rule fits only citations of its kinds
-pub fits-kinds : (r : Rule) (A : Formula) (cs : List Cited) → Fits r A cs → map kind cs ≡ kinds r
+pub fits-kinds : Of-their-kinds
 fits-kinds Reiterate A cs f = ap (map kind) f
 fits-kinds AndIntro A cs f = ap (map kind) (f .3)
 fits-kinds AndLeft A cs f = ap (map kind) (f .1)

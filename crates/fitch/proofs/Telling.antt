@@ -1,18 +1,17 @@
 -- What the records say of lines and boxes.
 use mathlib.Core.Path.{_≡_, refl, sym, _∙_, ap, ap₂, subst}
-use mathlib.Core.List.{List, [], _∷_, _++_, List·Memᴰ, List·Memᴰ·head, List·Memᴰ·tail}
+use mathlib.Core.List.{List, [], _∷_, List·Memᴰ, List·Memᴰ·head, List·Memᴰ·tail}
 use mathlib.Core.Logic.{_⊎_, inl, inr}
 use Prim.Native.Nat.{ℕ, zero, suc, _-_, _≤_, _<_}
 use native.Mathlib.Omega.{arith}
-use lib.ListN.{length, getD}
+use lib.ListN.{getD}
 use Rattle.std.specs.shelf.Maps.{nth}
 use Rattle.std.proofs.shelf.Maps.{nth-getD}
-use Rattle.std.specs.declared.option.Option.{Option}
-use Rattle.std.specs.declared.option.Option.the-variants.{Some, None}
+use Rattle.std.specs.declared.option.Option.the-variants.{Some}
 use Rattle.grammar.specs.Formula.{Formula}
 use Rattle.grammar.specs.Formula.Formula.{falsum}
-use Rattle.fitch.specs.History.{History, Box, Line, count, outer, boxes, lines, line-at, Stands, Open, Reads, Shows}
-use Rattle.fitch.specs.Records.{innermost, Names, Kept, plain, blank, records}
+use Rattle.fitch.specs.History.{History, Box, Line, count, outer, boxes, lines, Stands, Open, Reads, Shows}
+use Rattle.fitch.specs.Records.{innermost, Names, Kept, blank, records}
 use Rattle.fitch.specs.Exact.{kept-at, Still-open, Told, Numbered-boxes}
 use Rattle.fitch.proofs.Nesting.{all-nth, reach, reach-outer, unique, first-line, count-lines, Named, lines-named, named-innermost, named-outer}
 use Rattle.fitch.proofs.Keeping.{nth-within, LastOf, Ending, Agree, agrees, HasFirst, Firsts, firsts, firsts-outer, count-records}

@@ -1,6 +1,6 @@
 -- What a citation stands for, by the records.
 use mathlib.Core.Path.{_≡_}
-use mathlib.Core.List.{List, []}
+use mathlib.Core.List.{List, [], map}
 use mathlib.Core.Logic.{_⊎_}
 use Prim.Native.Nat.{ℕ, suc, _-_, _≤_, _<_}
 use lib.ListN.{getD, length}
@@ -8,12 +8,16 @@ use Rattle.std.specs.declared.option.Option.the-variants.{Some}
 use Rattle.grammar.specs.Formula.{Formula}
 use Rattle.grammar.specs.Formula.Formula.{falsum}
 use Rattle.fitch.specs.History.{History, Line, Cites, Reads, Shows, count, line-at, Stands}
-use Rattle.fitch.specs.Rules.{Cited, line, kind, kinds}
+use Rattle.fitch.specs.Rules.{Cited, line, kind, kinds, Fits}
 use Rattle.fitch.specs.declared.rule.Rule.{Rule}
 use Rattle.fitch.specs.declared.rule.Kind.{Kind}
 use Rattle.fitch.specs.declared.rule.Kind.the-variants.{Line as a-line}
 use Rattle.std.specs.declared.option.Option.the-variants.{None}
 use Rattle.fitch.specs.Records.{Kept, records, blank}
+
+-- a rule fits only citations of the kinds that it takes
+abbrev pub Of-their-kinds : Type 0
+Of-their-kinds = (r : Rule) (A : Formula) (cs : List Cited) → Fits r A cs → map kind cs ≡ kinds r
 
 -- a citation stands for one line at most, and for one box at most
 abbrev pub Cited-once : Type 0

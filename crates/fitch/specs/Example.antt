@@ -1,7 +1,6 @@
 -- A box ends with the last line written directly in it, and not in a box inside it.
 use mathlib.Core.Path.{_≡_}
-use mathlib.Core.List.{List, [], _∷_}
-use Prim.Native.Nat.{ℕ}
+use mathlib.Core.List.{[], _∷_}
 use Rattle.grammar.specs.Formula.{Formula, implication}
 use Rattle.fitch.specs.History.{History, begin, assume, close, Permits}
 use Rattle.fitch.specs.declared.mode.Mode.{Mode}

@@ -2,13 +2,13 @@
 use mathlib.Core.Path.{_≡_}
 use mathlib.Core.List.{List, [], _∷_, _++_}
 use mathlib.Core.Logic.{_⊎_}
-use Prim.Native.Nat.{ℕ, suc, _-_, _≤_, _<_}
+use Prim.Native.Nat.{ℕ, suc, _-_}
 use lib.ListN.{getD, set}
 use Rattle.grammar.specs.Formula.{Formula}
 use Rattle.grammar.specs.Formula.Formula.{falsum}
 use Rattle.fitch.specs.declared.rule.Reason.{Reason}
 use Rattle.fitch.specs.declared.rule.Reason.the-variants.{Premise, Assumption, Step}
-use Rattle.fitch.specs.History.{Call, premise, begin, assume, step, close, History, Box, Line, count, outer, boxes}
+use Rattle.fitch.specs.History.{premise, begin, assume, step, close, History, Box, count, outer, boxes}
 
 -- the name of the innermost of bs, or 0
 abbrev pub innermost : List Box → ℕ
