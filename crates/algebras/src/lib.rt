@@ -2,6 +2,7 @@
 //
 //   algebra::Algebra         what an algebra answers; write your own against it
 //   shared::SharedAlgebra    a reference to an algebra is an algebra
+#![tactic(auto)]
 
 pub mod algebra;
 pub mod shared;

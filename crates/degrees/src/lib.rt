@@ -4,6 +4,7 @@
 //     Chain::new              a chain of so many degrees, or a refusal
 //   chain::make::OutOfRange   why a chain is refused
 //   graded::evaluate_graded   formulas evaluated in the product of a chain and a frame
+#![tactic(auto)]
 
 pub mod chain;
 pub mod graded;

@@ -5,6 +5,7 @@
 //   sealed::Sealed         line, sequent
 //
 // Each call carries every history that the state has to the history with the call accepted; a refusal changes nothing.
+#![tactic(auto)]
 
 pub mod gathering;
 pub mod open;

@@ -6,6 +6,7 @@
 //   rule::Reason         why a line stands
 //   refusal::Refusal     why a call on derivations is refused, with its number and place
 //   theorems             what holds of every history
+#![tactic(auto)]
 
 pub mod mode;
 pub mod refusal;

@@ -7,5 +7,6 @@
 //     node                    how the formula at a place is made of others
 //     write                   the text of the formula at a place, into a buffer
 //     into_records            the records back
+#![tactic(auto)]
 
 pub mod store;

@@ -4,5 +4,6 @@
 //     Frame::new                a single world
 //     load                      worlds and pairs, each a world and one above it
 //   frame::ops::FrameAlgebra    a frame as an algebra
+#![tactic(auto)]
 
 pub mod frame;

@@ -6,6 +6,7 @@
 //   node::Node               a record of a store: how a formula is made of others
 //   refusal::Refusal         why a call on formulas is refused, with its number and place
 //   theorems                 what holds of every text and of every reading
+#![tactic(auto)]
 
 pub mod connective;
 pub mod node;

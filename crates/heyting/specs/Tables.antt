@@ -1,6 +1,6 @@
 -- How a frame is kept and computed: the order as a table of sets of worlds.
-use Rattle.std.specs.Prelude.{ℕ, zero, suc, ◌-◌, ◌^◌, ◌<◌, Bool, true, cond, not, ◌&&◌, ◌||◌, List, bit-or, nat_lt, slice_index}
-use Rattle.std.specs.Int.Bits.{bit_and}
+use Rattle.std.specs.Prelude.{ℕ, zero, suc, ◌-◌, ◌^◌, ◌<◌, Bool, true, cond, not, ◌&&◌, ◌||◌, List, nat_lt, slice_index}
+use Rattle.std.specs.Int.Bits.{bit_and, bit_or}
 use Rattle.heyting.specs.Meaning.{Meaning}
 use Rattle.heyting.specs.Worlds.{holds}
 
@@ -12,7 +12,7 @@ each p (suc n) = p n && each p n
 -- the set of the worlds below n of which p holds
 abbrev pub collect : (ℕ → Bool) → ℕ → ℕ
 collect p zero = 0
-collect p (suc n) = bit-or (collect p n) (cond (p n) (2 ^ n) 0)
+collect p (suc n) = bit_or (collect p n) (cond (p n) (2 ^ n) 0)
 
 abbrev pub implies : Bool → Bool → Bool
 implies a b = not a || b
@@ -33,7 +33,7 @@ of_sets n member arrow = record {
   bottom = 0;
   top = 2 ^ n - 1;
   meet = bit_and;
-  join = bitOr;
+  join = bit_or;
   arrow = arrow;
 }
 

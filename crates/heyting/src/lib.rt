@@ -3,6 +3,7 @@
 //
 //   refusal::Refusal   why a call on algebras is refused, with its number and place
 //   theorems           what holds of every algebra
+#![tactic(auto)]
 
 pub mod refusal;
 pub mod theorems;

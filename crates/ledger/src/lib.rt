@@ -5,6 +5,7 @@
 //   line::LineInfo       what is told of a line
 //   open_box::OpenBox    the record of an open box
 //   sequent::Sequent     what a derivation shows
+#![tactic(auto)]
 
 pub mod line;
 pub mod open_box;

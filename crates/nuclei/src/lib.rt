@@ -3,5 +3,6 @@
 //   nucleus::Nucleus               the layer at an element of any algebra
 //     Nucleus::new                 the layer, or `nucleus::make::NotMade`: a refusal with the algebra
 //     Nucleus::double_negation     the layer at the bottom
+#![tactic(auto)]
 
 pub mod nucleus;

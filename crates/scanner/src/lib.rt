@@ -2,6 +2,7 @@
 //
 //   symbol::symbol_of, symbol::symbol_at   what a byte stands for
 //   recognise::recognise                   a text's nesting and signs, or its refusal
+#![tactic(auto)]
 
 pub mod recognise;
 mod scan;

@@ -3,6 +3,7 @@
 //   cited::Cited       a line's formula, or what a box assumes and ends with
 //   parts::parts       the places of both parts of a joined formula
 //   parts::is_joined   whether a formula is joined of two others
+#![tactic(auto)]
 
 pub mod cited;
 pub mod parts;

@@ -1,5 +1,6 @@
 // The theory of soundness: what a derivation says in every Heyting algebra.
 //
 //   theorems   what holds of every derivation
+#![tactic(auto)]
 
 pub mod theorems;

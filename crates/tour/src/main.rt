@@ -1,4 +1,5 @@
 // A guided tour of the library: each chapter takes a task from start to finish and prints each action with its answer.
+#![tactic(auto)]
 
 mod chapter_algebras;
 mod chapter_formulas;

@@ -2,6 +2,7 @@
 //
 //   verdict::Verdict   the meet of the premises, the conclusion's value, and whether the first lies below the second
 //   weigh::weigh       the verdict on a sequent, whatever the algebra
+#![tactic(auto)]
 
 pub mod verdict;
 pub mod weigh;

@@ -2,6 +2,7 @@
 //
 //   valuation::Valuation   an element for each letter
 //   evaluate::evaluate     the value of each stored formula, into a buffer
+#![tactic(auto)]
 
 pub mod evaluate;
 pub mod valuation;

@@ -4,10 +4,10 @@ use Rattle.grammar.proofs.Measures.{signs_joins}
 use Rattle.scanner.proofs.recognise.recognise.Goals as goal
 
 pub returns-in-Err : goal.returns-in-Err
-returns-in-Err c = (c.if-text-gt-MOST-BYTES.false, breaks_none c.args.text.now _ c.in-Err.ensures)
+returns-in-Err c = (c.if-text-gt-MOST_BYTES.false, breaks_none c.args.text.now _ c.in-Err.ensures)
 
 pub returns-then-scanned-text : goal.returns-then-scanned-text
-returns-then-scanned-text c = (c.if-text-gt-MOST-BYTES.false, ends_none c.args.text.now _ _ _ c.in-Ok.ensures c.if-scanned-text.true)
+returns-then-scanned-text c = (c.if-text-gt-MOST_BYTES.false, ends_none c.args.text.now _ _ _ c.in-Ok.ensures c.if-scanned-text.true)
 
 pub returns-then-scanned-gt-MOST-NESTING : goal.returns-then-scanned-gt-MOST-NESTING
 returns-then-scanned-gt-MOST-NESTING c =
@@ -22,7 +22,7 @@ returns c =
     let text = whole_text c.args.text.now _ _ _ found c.if-scanned-text.false in
     record {
       formula = found.formula;
-      readable = record { short = c.if-text-gt-MOST-BYTES.false; text = text; shallow = omega (arith, found.nested) };
+      readable = record { short = c.if-text-gt-MOST_BYTES.false; text = text; shallow = omega (arith, found.nested) };
       nested = found.nested;
       signed = found.signed ∙ sym (signs_joins text);
     }

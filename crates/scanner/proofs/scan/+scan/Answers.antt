@@ -51,8 +51,8 @@ returns-in-default-symbol-at t c =
 
 pub scan-requires-in-Open-2 : goal.scan-requires-in-Open-2
 scan-requires-in-Open-2 t c =
-    let b = bounds _ c.in-ok-first.ensures in
-    let h = inside c.args.text.now c.in-ok-first.first.end (Sign c.in-Sign.field-0) (sym c.in-Sign.ensures) tt in
+    let b = bounds _ c.in_ok-first-in-Open.ensures in
+    let h = inside c.args.text.now c.in_ok-first-in-Open.first.end (Sign c.in-Sign.field-0) (sym c.in-Sign.ensures) tt in
     omega (arith, c.decreases)
 
 pub returns-in-err-second : goal.returns-in-err-second
@@ -99,13 +99,13 @@ returns-in-Close t c =
     let e' = sym c.in-Sign.ensures in
     let e'' = sym c.in-Close.ensures in
     rw c.max.ensures
-    (found_joined s at (inside s at Open e tt) e c.in-ok-first.ensures _ (inside s _ _ e' tt) e' c.in-ok-second.ensures (inside s _ _ e'' tt) e'')
+    (found_joined s at (inside s at Open e tt) e c.in_ok-first-in-Open.ensures _ (inside s _ _ e' tt) e' c.in_ok-second-in-Open.ensures (inside s _ _ e'' tt) e'')
 
 pub returns-in-Falsum : goal.returns-in-Falsum
 returns-in-Falsum t c =
     let s = c.args.text.now in
     let at = c.args.at in
-    ⊎_elim (λ e. let y = sym c.symbol-at.ensures ∙ e in found_falsum s at (inside s at Falsum y tt) y) (λ e. let y = sym c.symbol-at.ensures ∙ e in found_letter s at (inside s at Letter y tt) y) c.in-Falsum.is
+    ⊎_elim (λ e. let y = sym c.symbol_at.ensures ∙ e in found_falsum s at (inside s at Falsum y tt) y) (λ e. let y = sym c.symbol_at.ensures ∙ e in found_letter s at (inside s at Letter y tt) y) c.in-Falsum.is
 
 pub returns-in-default : goal.returns-in-default
 returns-in-default t c =
