@@ -9,10 +9,10 @@ returns-in-Err c = (c.if-text-gt-MOST_BYTES.false, breaks_none c.args.text.now _
 pub returns-then-scanned-text : goal.returns-then-scanned-text
 returns-then-scanned-text c = (c.if-text-gt-MOST_BYTES.false, ends_none c.args.text.now _ _ _ c.in-Ok.ensures c.if-scanned-text.true)
 
-pub returns-then-scanned-gt-MOST-NESTING : goal.returns-then-scanned-gt-MOST-NESTING
-returns-then-scanned-gt-MOST-NESTING c =
+pub returns-then-scanned-gt-MOST_NESTING : goal.returns-then-scanned-gt-MOST_NESTING
+returns-then-scanned-gt-MOST_NESTING c =
     let found = c.in-Ok.ensures in (
-      c.if-text-gt-MOST-BYTES.false,
+      c.if-text-gt-MOST_BYTES.false,
       (found.formula, whole_text c.args.text.now _ _ _ found c.if-scanned-text.false, omega (arith, found.nested)),
     )
 

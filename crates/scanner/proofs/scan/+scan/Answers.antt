@@ -9,45 +9,45 @@ use Rattle.scanner.proofs.scan.+scan.Goals as goal
 pub scan-requires : goal.scan-requires
 scan-requires t c = let h = inside c.args.text.now c.args.at Not (sym c.in-Not.ensures) tt in omega (arith, c.decreases)
 
-pub returns-in-err-part : goal.returns-in-err-part
-returns-in-err-part t c =
+pub returns-in_err-part-in-Not : goal.returns-in_err-part-in-Not
+returns-in_err-part-in-Not t c =
     let s = c.args.text.now in
     let at = c.args.at in
     let e = sym c.in-Not.ensures in
-    let p = err_from_is_err_and c.from-residual.result c.from-residual.ensures.1 in
-    rw (p.1, p.2) (breaks_not s at _ (inside s at Not e tt) e c.in-err-part.ensures)
+    let p = err_from_is_err_and c.from_residual.result c.from_residual.ensures.1 in
+    rw (p.1, p.2) (breaks_not s at _ (inside s at Not e tt) e c.in_err-part-in-Not.ensures)
 
-pub overflow-add-result-in-Not : goal.overflow-add-result-in-Not
-overflow-add-result-in-Not t c = let b = bounds _ c.in-ok-part.ensures in omega arith
+pub overflow_add-result-in-Not : goal.overflow_add-result-in-Not
+overflow_add-result-in-Not t c = let b = bounds _ c.in_ok-part-in-Not.ensures in omega arith
 
-pub overflow-add-result-in-Not-2 : goal.overflow-add-result-in-Not-2
-overflow-add-result-in-Not-2 t c = let b = bounds _ c.in-ok-part.ensures in omega arith
+pub overflow_add-result-in-Not-2 : goal.overflow_add-result-in-Not-2
+overflow_add-result-in-Not-2 t c = let b = bounds _ c.in_ok-part-in-Not.ensures in omega arith
 
-pub returns-in-ok-part : goal.returns-in-ok-part
-returns-in-ok-part t c =
+pub returns-in_ok-part-in-Not : goal.returns-in_ok-part-in-Not
+returns-in_ok-part-in-Not t c =
     let s = c.args.text.now in
     let at = c.args.at in
     let e = sym c.in-Not.ensures in
-    found_not s at _ _ _ (inside s at Not e tt) e c.in-ok-part.ensures
+    found_not s at _ _ _ (inside s at Not e tt) e c.in_ok-part-in-Not.ensures
 
 pub scan-requires-in-Open : goal.scan-requires-in-Open
 scan-requires-in-Open t c = let h = inside c.args.text.now c.args.at Open (sym c.in-Open.ensures) tt in omega (arith, c.decreases)
 
-pub returns-in-err-first : goal.returns-in-err-first
-returns-in-err-first t c =
+pub returns-in_err-first-in-Open : goal.returns-in_err-first-in-Open
+returns-in_err-first-in-Open t c =
     let s = c.args.text.now in
     let at = c.args.at in
     let e = sym c.in-Open.ensures in
-    let p = err_from_is_err_and c.from-residual-in-err-first.result c.from-residual-in-err-first.ensures.1 in
-    rw (p.1, p.2) (breaks_first s at (inside s at Open e tt) e _ c.in-err-first.ensures)
+    let p = err_from_is_err_and c.from_residual-in_err-first-in-Open.result c.from_residual-in_err-first-in-Open.ensures.1 in
+    rw (p.1, p.2) (breaks_first s at (inside s at Open e tt) e _ c.in_err-first-in-Open.ensures)
 
-pub returns-in-default-symbol-at : goal.returns-in-default-symbol-at
-returns-in-default-symbol-at t c =
+pub returns-in_default-symbol_at : goal.returns-in_default-symbol_at
+returns-in_default-symbol_at t c =
     let s = c.args.text.now in
     let at = c.args.at in
     let e = sym c.in-Open.ensures in
-    breaks_sign s at (inside s at Open e tt) e c.in-ok-first.ensures
-    (λ st. ap (λ y. step y (a_sign ∷ st)) (sym c.symbol-at-in-Open.ensures) ∙ no_sign _ c.in-default-symbol-at.not-Sign st)
+    breaks_sign s at (inside s at Open e tt) e c.in_ok-first-in-Open.ensures
+    (λ st. ap (λ y. step y (a_sign ∷ st)) (sym c.symbol_at-in-Open.ensures) ∙ no_sign _ c.in_default-symbol_at.not-Sign st)
 
 pub scan-requires-in-Open-2 : goal.scan-requires-in-Open-2
 scan-requires-in-Open-2 t c =
@@ -55,40 +55,40 @@ scan-requires-in-Open-2 t c =
     let h = inside c.args.text.now c.in_ok-first-in-Open.first.end (Sign c.in-Sign.field-0) (sym c.in-Sign.ensures) tt in
     omega (arith, c.decreases)
 
-pub returns-in-err-second : goal.returns-in-err-second
-returns-in-err-second t c =
+pub returns-in_err-second-in-Open : goal.returns-in_err-second-in-Open
+returns-in_err-second-in-Open t c =
     let s = c.args.text.now in
     let at = c.args.at in
     let e = sym c.in-Open.ensures in
     let e' = sym c.in-Sign.ensures in
-    let p = err_from_is_err_and c.from-residual-in-err-second.result c.from-residual-in-err-second.ensures.1 in
-    rw (p.1, p.2) (breaks_second s at (inside s at Open e tt) e c.in-ok-first.ensures _ (inside s _ _ e' tt) e' _ c.in-err-second.ensures)
+    let p = err_from_is_err_and c.from_residual-in_err-second-in-Open.result c.from_residual-in_err-second-in-Open.ensures.1 in
+    rw (p.1, p.2) (breaks_second s at (inside s at Open e tt) e c.in_ok-first-in-Open.ensures _ (inside s _ _ e' tt) e' _ c.in_err-second-in-Open.ensures)
 
-pub returns-in-default-symbol-at-2 : goal.returns-in-default-symbol-at-2
-returns-in-default-symbol-at-2 t c =
+pub returns-in_default-symbol_at-2 : goal.returns-in_default-symbol_at-2
+returns-in_default-symbol_at-2 t c =
     let s = c.args.text.now in
     let at = c.args.at in
     let e = sym c.in-Open.ensures in
     let e' = sym c.in-Sign.ensures in
-    breaks_close s at (inside s at Open e tt) e c.in-ok-first.ensures _ (inside s _ _ e' tt) e' c.in-ok-second.ensures
-    (λ st. ap (λ y. step y (close ∷ st)) (sym c.symbol-at-in-Open-2.ensures) ∙ no_close _ c.in-default-symbol-at-2.not-Close st)
+    breaks_close s at (inside s at Open e tt) e c.in_ok-first-in-Open.ensures _ (inside s _ _ e' tt) e' c.in_ok-second-in-Open.ensures
+    (λ st. ap (λ y. step y (close ∷ st)) (sym c.symbol_at-in-Open-2.ensures) ∙ no_close _ c.in_default-symbol_at-2.not-Close st)
 
-pub overflow-add-result-in-Open-2 : goal.overflow-add-result-in-Open-2
-overflow-add-result-in-Open-2 t c =
-    let a = bounds _ c.in-ok-first.ensures in
-    let b = bounds _ c.in-ok-second.ensures in
+pub overflow_add-result-in-Open-2 : goal.overflow_add-result-in-Open-2
+overflow_add-result-in-Open-2 t c =
+    let a = bounds _ c.in_ok-first-in-Open.ensures in
+    let b = bounds _ c.in_ok-second-in-Open.ensures in
     omega (arith, c.max.ensures)
 
-pub overflow-add-result-in-Open-3 : goal.overflow-add-result-in-Open-3
-overflow-add-result-in-Open-3 t c =
-    let a = bounds _ c.in-ok-first.ensures in
-    let b = bounds _ c.in-ok-second.ensures in
+pub overflow_add-result-in-Open-3 : goal.overflow_add-result-in-Open-3
+overflow_add-result-in-Open-3 t c =
+    let a = bounds _ c.in_ok-first-in-Open.ensures in
+    let b = bounds _ c.in_ok-second-in-Open.ensures in
     omega arith
 
-pub overflow-add-result-in-Open-4 : goal.overflow-add-result-in-Open-4
-overflow-add-result-in-Open-4 t c =
-    let a = bounds _ c.in-ok-first.ensures in
-    let b = bounds _ c.in-ok-second.ensures in
+pub overflow_add-result-in-Open-4 : goal.overflow_add-result-in-Open-4
+overflow_add-result-in-Open-4 t c =
+    let a = bounds _ c.in_ok-first-in-Open.ensures in
+    let b = bounds _ c.in_ok-second-in-Open.ensures in
     omega arith
 
 pub returns-in-Close : goal.returns-in-Close
@@ -107,8 +107,8 @@ returns-in-Falsum t c =
     let at = c.args.at in
     ⊎_elim (λ e. let y = sym c.symbol_at.ensures ∙ e in found_falsum s at (inside s at Falsum y tt) y) (λ e. let y = sym c.symbol_at.ensures ∙ e in found_letter s at (inside s at Letter y tt) y) c.in-Falsum.is
 
-pub returns-in-default : goal.returns-in-default
-returns-in-default t c =
-    let w = c.in-default in
+pub returns-in_default : goal.returns-in_default
+returns-in_default t c =
+    let w = c.in_default in
     breaks_here c.args.text.now c.args.at c.requires
-    (λ st. ap (λ y. step y (formula ∷ st)) (sym c.symbol-at.ensures) ∙ no_formula _ w.not-Falsum w.not-Letter w.not-Not w.not-Open st)
+    (λ st. ap (λ y. step y (formula ∷ st)) (sym c.symbol_at.ensures) ∙ no_formula _ w.not-Falsum w.not-Letter w.not-Not w.not-Open st)

@@ -15,8 +15,8 @@ use Rattle.formulas.proofs.Stores.{count_is_used, stay_same, stay_then, same_cap
 use Rattle.grammar.proofs.Entries.{falsum_at, letter_enters, falsum_enters, not_fits, not_room, not_enterable, open_fits, open_room, first_enterable, second_enterable, joined_enters, joined_fitting, joined_low, joined_room}
 use Rattle.formulas.proofs.store.Store.+enter.Goals as goal
 use Rattle.formulas.proofs.store.Store.+enter.Goals.{In-Not, In-Open, After-enter-part, After-enter-first, After-enter-second}
-use Rattle.formulas.proofs.store.Store.+enter.Goals.{at·enter-part-requires, at·cast-part, at·place-of-place-requires, at·returns-in-Not}
-use Rattle.formulas.proofs.store.Store.+enter.Goals.{at·enter-first-requires, at·connective-at-connective-requires, at·add-first, at·enter-second-requires, at·cast-first, at·cast-second, at·add-result-in-Open, at·place-of-place-requires-in-Open, at·returns-in-Open}
+use Rattle.formulas.proofs.store.Store.+enter.Goals.{at-enter-part-requires, at-overflow_cast-part, at-place_of-place-requires, at-returns-in-Not}
+use Rattle.formulas.proofs.store.Store.+enter.Goals.{at-enter-first-requires, at-connective_at-connective-requires, at-overflow_add-first, at-enter-second-requires, at-overflow_cast-first, at-overflow_cast-second, at-overflow_add-result-in-Open, at-place_of-place-requires-in-Open, at-returns-in-Open}
 
 sign_is : (j k : Connective) → Sign j ≡ Sign k → j ≡ k
 sign_is j k e = cc
@@ -37,11 +37,11 @@ returns-in-Letter t c =
       stay = stay_same st;
     }
 
-pub returns-in-default : goal.returns-in-default
-returns-in-default t c =
+pub returns-in_default : goal.returns-in_default
+returns-in_default t c =
     let st : Store = c.args.self.now in
-    let w = c.in-default in
-    let y = c.symbol-at.ensures in
+    let w = c.in_default in
+    let y = c.symbol_at.ensures in
     record {
       enters = λ f end d.
           let l = at_falsum (shape d) (λ e. w.not-Letter (y ∙ e)) (λ e. w.not-Not (y ∙ e)) (λ e. w.not-Open (y ∙ e)) in
@@ -59,18 +59,18 @@ part_entered : (t : ℕ) (c : After-enter-part t) {end : ℕ} {f : Formula} (n :
 part_entered t c {end} n = c.enter-part.ensures.enters n.part end n.stands
 
 pub enter-part-requires : goal.enter-part-requires
-enter-part-requires t c = let n = negated t (at·enter-part-requires t c).In-Not in (omega (arith, c.decreases, n.inside), not_enterable c.requires n)
+enter-part-requires t c = let n = negated t (at-enter-part-requires t c).In-Not in (omega (arith, c.decreases, n.inside), not_enterable c.requires n)
 
-pub overflow-cast-part : goal.overflow-cast-part
-overflow-cast-part t c =
-    let d = (at·cast-part t c).After-enter-part in
-    omega (arith, small c.enter-part.new.self c.enter-part.result.place (part_entered t d (negated t (at·cast-part t c).In-Not)).1.within)
+pub overflow_cast-part : goal.overflow_cast-part
+overflow_cast-part t c =
+    let d = (at-overflow_cast-part t c).After-enter-part in
+    omega (arith, small c.enter-part.new.self c.enter-part.result.place (part_entered t d (negated t (at-overflow_cast-part t c).In-Not)).1.within)
 
-pub place-of-place-requires : goal.place-of-place-requires
-place-of-place-requires t c =
+pub place_of-place-requires : goal.place_of-place-requires
+place_of-place-requires t c =
     let st : Store = c.enter-part.new.self in
-    let n = negated t (at·place-of-place-requires t c).In-Not in
-    let a = (part_entered t (at·place-of-place-requires t c).After-enter-part n).1 in
+    let n = negated t (at-place_of-place-requires t c).In-Not in
+    let a = (part_entered t (at-place_of-place-requires t c).After-enter-part n).1 in
     let p : ℕ = c.enter-part.result.place in
     record {
       room = joined_room _ _ (contents st) (contents st) Implies n.part falsum p 0 p a refl (falsum_at (contents st) st.base) _ (omega (arith, same_capacity c.enter-part.ensures.stay, not_room c.requires n));
@@ -81,14 +81,14 @@ place-of-place-requires t c =
 pub returns-in-Not : goal.returns-in-Not
 returns-in-Not t c =
     let st : Store = c.enter-part.new.self in
-    let cs = contents c.place-of-place.new.self in
+    let cs = contents c.place_of-place.new.self in
     let p : ℕ = c.enter-part.result.place in
-    let r : ℕ = c.place-of-place.result in
-    let e = c.place-of-place.ensures in
+    let r : ℕ = c.place_of-place.result in
+    let e = c.place_of-place.ensures in
     record {
       enters = λ f end d.
           let n = at_not (shape d) (sym c.in-Not.ensures) in
-          let a = part_entered t (at·returns-in-Not t c).After-enter-part n in
+          let a = part_entered t (at-returns-in-Not t c).After-enter-part n in
           (a.0, subst (λ g. Enters (contents c.args.self.now) cs g r) (sym n.formula) (joined_enters _ _ (contents st) cs Implies n.part falsum p 0 r a.1 refl (falsum_at (contents st) st.base) e.held e.found e.within));
       stay = stay_then c.enter-part.ensures.stay e.stay;
     }
@@ -111,72 +111,72 @@ same_connective : {s : List ℕ} {at end : ℕ} {f : Formula} (o : AtOpen s at e
 same_connective {s} o e y = sign_is _ _ (sym o.signed ∙ ap (λ i. symbol (get_or s i 0)) (sym e) ∙ y)
 
 pub enter-first-requires : goal.enter-first-requires
-enter-first-requires t c = let o = opened t (at·enter-first-requires t c).In-Open in (omega (arith, c.decreases, o.inside), first_enterable c.requires o)
+enter-first-requires t c = let o = opened t (at-enter-first-requires t c).In-Open in (omega (arith, c.decreases, o.inside), first_enterable c.requires o)
 
-pub connective-at-connective-requires : goal.connective-at-connective-requires
-connective-at-connective-requires t c =
-    let o = opened t (at·connective-at-connective-requires t c).In-Open in
+pub connective_at-connective-requires : goal.connective_at-connective-requires
+connective_at-connective-requires t c =
+    let o = opened t (at-connective_at-connective-requires t c).In-Open in
     (o.connective, ap (λ i. symbol (get_or c.args.text.now i 0)) (first_entered t c o).0 ∙ o.signed)
 
-pub overflow-add-first : goal.overflow-add-first
-overflow-add-first t c =
-    let o = opened t (at·add-first t c).In-Open in
-    omega (arith, (first_entered t (at·add-first t c).After-enter-first o).0, o.mid_inside)
+pub overflow_add-first : goal.overflow_add-first
+overflow_add-first t c =
+    let o = opened t (at-overflow_add-first t c).In-Open in
+    omega (arith, (first_entered t (at-overflow_add-first t c).After-enter-first o).0, o.mid_inside)
 
 pub enter-second-requires : goal.enter-second-requires
 enter-second-requires t c =
-    let o = opened t (at·enter-second-requires t c).In-Open in
-    let a = first_entered t (at·enter-second-requires t c).After-enter-first o in
+    let o = opened t (at-enter-second-requires t c).In-Open in
+    let a = first_entered t (at-enter-second-requires t c).After-enter-first o in
     (omega (arith, c.decreases, a.0, o.mid_inside, o.one.long), second_enterable c.requires o _ a.0 _ a.1.held _ (same_capacity c.enter-first.ensures.stay))
 
-pub overflow-cast-first : goal.overflow-cast-first
-overflow-cast-first t c =
-    let o = opened t (at·cast-first t c).In-Open in
-    omega (arith, small c.enter-first.new.self c.enter-first.result.place (first_entered t (at·cast-first t c).After-enter-first o).1.within)
+pub overflow_cast-first : goal.overflow_cast-first
+overflow_cast-first t c =
+    let o = opened t (at-overflow_cast-first t c).In-Open in
+    omega (arith, small c.enter-first.new.self c.enter-first.result.place (first_entered t (at-overflow_cast-first t c).After-enter-first o).1.within)
 
-pub overflow-cast-second : goal.overflow-cast-second
-overflow-cast-second t c =
-    let o = opened t (at·cast-second t c).In-Open in
-    let a = first_entered t (at·cast-second t c).After-enter-first o in
-    let b = second_entered t (at·cast-second t c).After-enter-second o a.0 in
+pub overflow_cast-second : goal.overflow_cast-second
+overflow_cast-second t c =
+    let o = opened t (at-overflow_cast-second t c).In-Open in
+    let a = first_entered t (at-overflow_cast-second t c).After-enter-first o in
+    let b = second_entered t (at-overflow_cast-second t c).After-enter-second o a.0 in
     omega (arith, small c.enter-second.new.self c.enter-second.result.place b.1.within)
 
-pub overflow-add-result-in-Open : goal.overflow-add-result-in-Open
-overflow-add-result-in-Open t c =
-    let o = opened t (at·add-result-in-Open t c).In-Open in
-    let a = first_entered t (at·add-result-in-Open t c).After-enter-first o in
-    let b = second_entered t (at·add-result-in-Open t c).After-enter-second o a.0 in
+pub overflow_add-result-in-Open : goal.overflow_add-result-in-Open
+overflow_add-result-in-Open t c =
+    let o = opened t (at-overflow_add-result-in-Open t c).In-Open in
+    let a = first_entered t (at-overflow_add-result-in-Open t c).After-enter-first o in
+    let b = second_entered t (at-overflow_add-result-in-Open t c).After-enter-second o a.0 in
     omega (arith, b.0, o.stop_inside)
 
-pub place-of-place-requires-in-Open : goal.place-of-place-requires-in-Open
-place-of-place-requires-in-Open t c =
+pub place_of-place-requires-in-Open : goal.place_of-place-requires-in-Open
+place_of-place-requires-in-Open t c =
     let st : Store = c.enter-second.new.self in
-    let o = opened t (at·place-of-place-requires-in-Open t c).In-Open in
-    let a = first_entered t (at·place-of-place-requires-in-Open t c).After-enter-first o in
-    let b = second_entered t (at·place-of-place-requires-in-Open t c).After-enter-second o a.0 in
-    let k = same_connective o a.0 c.connective-at-connective.ensures in
+    let o = opened t (at-place_of-place-requires-in-Open t c).In-Open in
+    let a = first_entered t (at-place_of-place-requires-in-Open t c).After-enter-first o in
+    let b = second_entered t (at-place_of-place-requires-in-Open t c).After-enter-second o a.0 in
+    let k = same_connective o a.0 c.connective_at-connective.ensures in
     let p : ℕ = c.enter-first.result.place in
     let q : ℕ = c.enter-second.result.place in
     record {
-      room = joined_room _ _ (contents st) (contents st) c.connective-at-connective.result _ _ p q p a.1 b.1.held b.1.found _ (omega (arith, same_capacity c.enter-second.ensures.stay, same_capacity c.enter-first.ensures.stay, open_room c.requires o));
-      below = joined_low _ _ (contents st) (contents st) c.connective-at-connective.result _ _ p q p a.1 b.1.held b.1.found b.1.within;
-      fitting = joined_fitting _ _ (contents st) (contents st) c.connective-at-connective.result _ _ p q p a.1 b.1.held b.1.found (subst (λ j. Fitting (joined j o.first o.second)) k (open_fits c.requires o));
+      room = joined_room _ _ (contents st) (contents st) c.connective_at-connective.result _ _ p q p a.1 b.1.held b.1.found _ (omega (arith, same_capacity c.enter-second.ensures.stay, same_capacity c.enter-first.ensures.stay, open_room c.requires o));
+      below = joined_low _ _ (contents st) (contents st) c.connective_at-connective.result _ _ p q p a.1 b.1.held b.1.found b.1.within;
+      fitting = joined_fitting _ _ (contents st) (contents st) c.connective_at-connective.result _ _ p q p a.1 b.1.held b.1.found (subst (λ j. Fitting (joined j o.first o.second)) k (open_fits c.requires o));
     }
 
 pub returns-in-Open : goal.returns-in-Open
 returns-in-Open t c =
     let st : Store = c.enter-second.new.self in
-    let cs = contents c.place-of-place-in-Open.new.self in
+    let cs = contents c.place_of-place-in-Open.new.self in
     let p : ℕ = c.enter-first.result.place in
     let q : ℕ = c.enter-second.result.place in
-    let r : ℕ = c.place-of-place-in-Open.result in
-    let e = c.place-of-place-in-Open.ensures in
+    let r : ℕ = c.place_of-place-in-Open.result in
+    let e = c.place_of-place-in-Open.ensures in
     record {
       enters = λ f end d.
           let o = at_open (shape d) (sym c.in-Open.ensures) in
-          let a = first_entered t (at·returns-in-Open t c).After-enter-first o in
-          let b = second_entered t (at·returns-in-Open t c).After-enter-second o a.0 in
-          let k = same_connective o a.0 c.connective-at-connective.ensures in
+          let a = first_entered t (at-returns-in-Open t c).After-enter-first o in
+          let b = second_entered t (at-returns-in-Open t c).After-enter-second o a.0 in
+          let k = same_connective o a.0 c.connective_at-connective.ensures in
           (omega (arith, b.0, o.ends), subst (λ g. Enters (contents c.args.self.now) cs g r) (ap (λ j. joined j o.first o.second) (sym k) ∙ sym o.formula) (joined_enters _ _ (contents st) cs _ _ _ p q r a.1 b.1.held b.1.found e.held e.found e.within));
       stay = stay_then c.enter-first.ensures.stay (stay_then c.enter-second.ensures.stay e.stay);
     }

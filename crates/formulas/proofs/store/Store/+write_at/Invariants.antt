@@ -1,4 +1,4 @@
 use Rattle.formulas.proofs.store.Store.+write_at.Given as goal
 
-abbrev pub decreases-write-at : goal.decreases-write-at
-decreases-write-at l = l.place
+abbrev pub decreases-write_at : goal.decreases-write_at
+decreases-write_at l = l.place

@@ -16,10 +16,17 @@ loop-i-preserved c =
     let inside : i < length all = omega (arith, c.loop-i.nodes.ok.0, c.loop-i.invariant.2, c.len.ensures) in
     (one_more all i (omega arith) (omega arith) inside c.loop-i.invariant.0, drop-set-lt 27 all i _ (omega arith) ∙ c.loop-i.invariant.1, c.loop-i.invariant.2)
 
-pub invariant-of-result : goal.invariant-of-result
-invariant-of-result c =
+pub invariant_of-result : goal.invariant_of-result
+invariant_of-result c =
     let good = subst Good (sym (filled c.loop-i.nodes.items c.loop-i.i (omega arith) c.loop-i.invariant.0)) basics_good in
-    (omega (arith, c.loop-i.invariant.2, c.len.ensures), (omega arith, (good.founded, (good.base, (good.once, (good.fitting, tt))))))
+    record {
+      within = omega (arith, c.loop-i.invariant.2, c.len.ensures);
+      most = omega arith;
+      founded = good.founded;
+      base = good.base;
+      once = good.once;
+      fitting = good.fitting;
+    }
 
 pub returns : goal.returns
 returns c =

@@ -19,16 +19,23 @@ returns-in-Some c =
       stay = stay_same s;
     }
 
-pub index-mut-requires : goal.index-mut-requires
-index-mut-requires c = let s : Store = c.args.self.now in omega (arith, count_is_used s, c.requires.room, s.nodes.ok.0)
+pub index_mut-requires : goal.index_mut-requires
+index_mut-requires c = let s : Store = c.args.self.now in omega (arith, count_is_used s, c.requires.room, s.nodes.ok.0)
 
-pub invariant-of-self : goal.invariant-of-self
-invariant-of-self c =
+pub invariant_of-self : goal.invariant_of-self
+invariant_of-self c =
     let s : Store = c.args.self.now in
     let room : s.used < length (records s) = omega (arith, count_is_used s, c.requires.room) in
     let low : parts_below s.used c.args.node ≡ true = subst (λ l. parts_below l c.args.node ≡ true) (count_is_used s) c.requires.below in
-    let g = more_is_good (records s) s.used (within s) (good s) c.args.node room low c.in-default.ensures c.requires.fitting in
-    (omega (arith, s.nodes.ok.0), (omega (arith, count_is_used s, c.requires.room), (g.founded, (g.base, (g.once, (g.fitting, tt))))))
+    let g = more_is_good (records s) s.used (within s) (good s) c.args.node room low c.in_default.ensures c.requires.fitting in
+    record {
+      within = omega (arith, s.nodes.ok.0);
+      most = omega (arith, count_is_used s, c.requires.room);
+      founded = g.founded;
+      base = g.base;
+      once = g.once;
+      fitting = g.fitting;
+    }
 
 pub returns : goal.returns
 returns c =
@@ -36,10 +43,10 @@ returns c =
     let n = c.args.node in
     let room : s.used < length (records s) = omega (arith, count_is_used s, c.requires.room) in
     let low : parts_below s.used n ≡ true = subst (λ l. parts_below l n ≡ true) (count_is_used s) c.requires.below in
-    let long = more_long (records s) s.used (within s) (good s) n room low c.in-default.ensures in
+    let long = more_long (records s) s.used (within s) (good s) n room low c.in_default.ensures in
     record {
-      held = more_contents (records s) s.used (within s) (good s) n room low c.in-default.ensures;
-      found = more_place (records s) s.used (within s) (good s) n room low c.in-default.ensures;
+      held = more_contents (records s) s.used (within s) (good s) n room low c.in_default.ensures;
+      found = more_place (records s) s.used (within s) (good s) n room low c.in_default.ensures;
       within = omega (arith, long);
       stay = record {
         long = length-set (records s) s.used n;

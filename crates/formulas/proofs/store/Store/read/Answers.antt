@@ -8,22 +8,22 @@ use Rattle.formulas.specs.declared.store.Store.{Store}
 use Rattle.formulas.proofs.Stores.{within, count_is_used, stay_same}
 use Rattle.formulas.proofs.store.Store.read.Goals as goal
 
-pub returns-in-err-measured : goal.returns-in-err-measured
-returns-in-err-measured c =
+pub returns-in_err-measured : goal.returns-in_err-measured
+returns-in_err-measured c =
     let s : Store = c.args.self.now in
-    let p = err_from_is_err_and c.from-residual.result c.from-residual.ensures.1 in
-    rw (p.1, p.2) (record { read = (unreadable_refused c.args.text.now (capacity s) (contents s) _ c.in-err-measured.ensures, refl); stay = stay_same s; refused = refl })
+    let p = err_from_is_err_and c.from_residual.result c.from_residual.ensures.1 in
+    rw (p.1, p.2) (record { read = (unreadable_refused c.args.text.now (capacity s) (contents s) _ c.in_err-measured.ensures, refl); stay = stay_same s; refused = refl })
 
 pub returns-then-measured-capacity : goal.returns-then-measured-capacity
 returns-then-measured-capacity c =
     let s : Store = c.args.self.now in
-    let w = c.in-ok-measured.ensures in
+    let w = c.in_ok-measured.ensures in
     record { read = (((w.formula, w.readable), omega (arith, w.signed, c.capacity.ensures, count_is_used s, within s, s.most)), refl); stay = stay_same s; refused = refl }
 
 pub enter-requires : goal.enter-requires
 enter-requires c =
     let s : Store = c.args.self.now in
-    let w = c.in-ok-measured.ensures in
+    let w = c.in_ok-measured.ensures in
     let r = w.readable in
     let text = c.args.text.now in
     record {
@@ -37,7 +37,7 @@ enter-requires c =
 pub returns : goal.returns
 returns c =
     let s : Store = c.args.self.now in
-    let w = c.in-ok-measured.ensures in
+    let w = c.in_ok-measured.ensures in
     let r = w.readable in
     let text = c.args.text.now in
     let e = c.enter.ensures in

@@ -15,8 +15,8 @@ loop-u-preserved c =
           (rw get_or-set_same (one_shl u 16 (omega arith))),
     )
 
-pub invariant-of-result : goal.invariant-of-result
-invariant-of-result c =
+pub invariant_of-result : goal.invariant_of-result
+invariant_of-result c =
     let n = c.args.worlds in
     let up = c.loop-u.up in
     let rows : (k : ℕ) → k < n → get_or up k 0 ≡ 2 ^ k = λ k h. c.loop-u.invariant.1 k (omega arith) in

@@ -3,8 +3,8 @@ use Rattle.heyting.specs.Tables.{table}
 use Rattle.heyting.proofs.Closures.{grown, grown_above, grown_lt, related_ordered}
 use Rattle.frames.proofs.frame.Frame.relate.Goals as goal
 
-pub invariant-of-self : goal.invariant-of-self
-invariant-of-self c =
+pub invariant_of-self : goal.invariant_of-self
+invariant_of-self c =
     let f = c.args.self.now in
     let u = c.args.u in
     let v = c.args.v in
