@@ -20,7 +20,12 @@ invariant_of-result c =
     let n = c.args.worlds in
     let up = c.loop-u.up in
     let rows : (k : ℕ) → k < n → get_or up k 0 ≡ 2 ^ k = λ k h. c.loop-u.invariant.1 k (omega arith) in
-    (c.requires.0, (c.requires.1, ((λ u h. rw (rows u h) (pow_below u n h)), (ordered_alone n (table up) (alone_above n up rows), tt))))
+    record {
+      least = c.requires.0;
+      most = c.requires.1;
+      within = λ u h. rw (rows u h) (pow_below u n h);
+      ordered = ordered_alone n (table up) (alone_above n up rows);
+    }
 
 pub returns : goal.returns
 returns c = record { worlds = refl; above = alone_above c.args.worlds c.loop-u.up (λ k h. c.loop-u.invariant.1 k (omega arith)) }

@@ -9,16 +9,13 @@ invariant_of-self c =
     let u = c.args.u in
     let v = c.args.v in
     let up = c.loop-w.up in
-    let rows : (k : ℕ) → k < f.worlds → get_or up k 0 ≡ grown f.up u v k = λ k h. c.loop-w.invariant.1 k (omega arith) in (
-      f.least,
-      (
-        f.most,
-        (
-          (λ k h. rw (rows k h) (grown_lt f.worlds f.up u v k f.within c.requires.1 h)),
-          (related_ordered f.worlds (table f.up) f.ordered u v c.requires.0 c.requires.1 (table up) (grown_above f.worlds f.up up u v rows), tt),
-        ),
-      ),
-    )
+    let rows : (k : ℕ) → k < f.worlds → get_or up k 0 ≡ grown f.up u v k = λ k h. c.loop-w.invariant.1 k (omega arith) in
+    record {
+      least = f.least;
+      most = f.most;
+      within = λ k h. rw (rows k h) (grown_lt f.worlds f.up u v k f.within c.requires.1 h);
+      ordered = related_ordered f.worlds (table f.up) f.ordered u v c.requires.0 c.requires.1 (table up) (grown_above f.worlds f.up up u v rows);
+    }
 
 pub returns : goal.returns
 returns c = record {
