@@ -14,16 +14,16 @@ pub returns-in-AndIntro : goal.returns-in-AndIntro
 returns-in-AndIntro c = by_two (contents c.args.store.now) _ _ c.args.cited.now (omega (arith, c.arity.ensures)) _ c.in-AndIntro.is refl c.joins.ensures
 
 pub returns-in-AndLeft : goal.returns-in-AndLeft
-returns-in-AndLeft c = by_one (contents c.args.store.now) _ _ c.args.cited.now (omega (arith, c.arity.ensures)) _ c.in-AndLeft.is refl c.takes-left.ensures
+returns-in-AndLeft c = by_one (contents c.args.store.now) _ _ c.args.cited.now (omega (arith, c.arity.ensures)) _ c.in-AndLeft.is refl c.takes_left.ensures
 
 pub returns-in-AndRight : goal.returns-in-AndRight
-returns-in-AndRight c = by_one (contents c.args.store.now) _ _ c.args.cited.now (omega (arith, c.arity.ensures)) _ c.in-AndRight.is refl c.takes-right.ensures
+returns-in-AndRight c = by_one (contents c.args.store.now) _ _ c.args.cited.now (omega (arith, c.arity.ensures)) _ c.in-AndRight.is refl c.takes_right.ensures
 
 pub returns-in-OrLeft : goal.returns-in-OrLeft
-returns-in-OrLeft c = by_one (contents c.args.store.now) _ _ c.args.cited.now (omega (arith, c.arity.ensures)) _ c.in-OrLeft.is refl c.widens-left.ensures
+returns-in-OrLeft c = by_one (contents c.args.store.now) _ _ c.args.cited.now (omega (arith, c.arity.ensures)) _ c.in-OrLeft.is refl c.widens_left.ensures
 
 pub returns-in-OrRight : goal.returns-in-OrRight
-returns-in-OrRight c = by_one (contents c.args.store.now) _ _ c.args.cited.now (omega (arith, c.arity.ensures)) _ c.in-OrRight.is refl c.widens-right.ensures
+returns-in-OrRight c = by_one (contents c.args.store.now) _ _ c.args.cited.now (omega (arith, c.arity.ensures)) _ c.in-OrRight.is refl c.widens_right.ensures
 
 pub returns-in-OrElim : goal.returns-in-OrElim
 returns-in-OrElim c = by_three (contents c.args.store.now) _ _ c.args.cited.now (omega (arith, c.arity.ensures)) _ c.in-OrElim.is refl c.splits.ensures

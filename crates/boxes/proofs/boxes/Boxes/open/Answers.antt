@@ -2,8 +2,8 @@ use Rattle.std.proofs.Common.{refl, arith}
 use Rattle.ledger.proofs.Stacking.{length_stacked, stacked_push}
 use Rattle.boxes.proofs.boxes.Boxes.open.Goals as goal
 
-pub returns-then-self-ge-MOST-BOXES : goal.returns-then-self-ge-MOST-BOXES
-returns-then-self-ge-MOST-BOXES c =
+pub returns-then-self-ge-MOST_BOXES : goal.returns-then-self-ge-MOST_BOXES
+returns-then-self-ge-MOST_BOXES c =
     let b = c.args.self.now in
     record { opened = λ few. absurd (omega (arith, length_stacked b.table b.depth)); full = λ all. (refl, refl) }
 

@@ -14,16 +14,16 @@ returns-then-first-number c = record {
   placed = tt;
 }
 
-pub is-open-requires : goal.is-open-requires
-is-open-requires c =
+pub is_open-requires : goal.is_open-requires
+is_open-requires c =
     let o = c.args.self.now in
     settled (dec_le _ _) o.recorded (λ r. around_bound o.fits r.1 c.args.number c.requires.some c.requires.within c.if-first-number.false)
 
-pub returns-then-not-is-open : goal.returns-then-not-is-open
-returns-then-not-is-open c = record {
+pub returns-then-not-is_open : goal.returns-then-not-is_open
+returns-then-not-is_open c = record {
   resolves = λ h g x q.
       (let t = box_told c.args.self.now.fits g c.args.number c.requires.some c.requires.within x q in
-      both_ways _ c.if-not-is-open.true ((c.is-open.ensures h g).1 t.2));
+      both_ways _ c.if-not-is_open.true ((c.is_open.ensures h g).1 t.2));
   placed = tt;
 }
 
@@ -31,8 +31,8 @@ returns-then-not-is-open c = record {
 end_in : (o : Page) (b : ℕ) → 0 < b → b ≤ o.count → (get_or o.lines.now (b - 1) no_line).inside ≡ b → (get_or o.lines.now (b - 1) no_line).end ≤ o.count
 end_in o b some within own = settled (dec_le _ _) o.recorded (λ r. end_bound o.fits r.1 b some within own)
 
-pub offset-bounds-self-first : goal.offset-bounds-self-first
-offset-bounds-self-first c =
+pub offset_bounds-self-first : goal.offset_bounds-self-first
+offset_bounds-self-first c =
     let e = end_in c.args.self.now c.args.number c.requires.some c.requires.within c.if-first-number.false in
     let m = c.args.self.now.small in
     omega arith
@@ -50,7 +50,7 @@ returns c =
     let e = end_in o c.args.number c.requires.some c.requires.within c.if-first-number.false in
     let n = c.if-first-eq0.false in
     record {
-      resolves = λ h g. box_some o.fits g c.args.number c.requires.some c.requires.within c.if-first-number.false n ((c.is-open.ensures h g).0 c.if-not-is-open.false);
+      resolves = λ h g. box_some o.fits g c.args.number c.requires.some c.requires.within c.if-first-number.false n ((c.is_open.ensures h g).0 c.if-not-is_open.false);
       placed = (
         settled (dec_lt _ _) o.recorded (λ r. r.1.stored _ (omega arith)),
         settled (dec_lt _ _) o.recorded (λ r. r.1.stored _ (omega arith)),

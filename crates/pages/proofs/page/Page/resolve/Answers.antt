@@ -15,12 +15,12 @@ pub loop-k-preserved : goal.loop-k-preserved
 loop-k-preserved c =
     let fs = formulas_on c.args.self.now in
     let k = c.loop-k.k in
-    let x = c.in-Some-stands-for.c in
+    let x = c.in-Some-stands_for.c in
     let room : k < length c.loop-k.cited = omega (arith, c.loop-k.invariant.0, c.requires.number, kinds_few c.args.rule) in (
       length-set c.loop-k.cited k x ∙ c.loop-k.invariant.0,
-      set_more (λ j y. Placed fs y) c.loop-k.cited k x (Line 0) room c.loop-k.invariant.1 c.in-Some-stands-for.ensures.placed,
+      set_more (λ j y. Placed fs y) c.loop-k.cited k x (Line 0) room c.loop-k.invariant.1 c.in-Some-stands_for.ensures.placed,
       (λ h g. set_more (λ j y. Reached h c.args.rule c.args.citations.now j (meaning fs y)) c.loop-k.cited k x (Line 0) room (c.loop-k.invariant.2 h g)
-          (subst (λ q. Resolved h q (get_or c.args.citations.now k 0) (meaning fs x)) c.in-Some.ensures.1 (c.in-Some-stands-for.ensures.resolves h g))),
+          (subst (λ q. Resolved h q (get_or c.args.citations.now k 0) (meaning fs x)) c.in-Some.ensures.1 (c.in-Some-stands_for.ensures.resolves h g))),
     )
 
 pub returns-in-None : goal.returns-in-None
