@@ -232,7 +232,7 @@ fn evaluating_fills_and_refuses(rt: HostRuntime) -> Result<(), Fail> {
     valuation.letters[15] = 2;
     let mut values = [77; 30];
     assert_eq!(rt; evaluate(&store, &frame, &valuation, &mut values), Ok(()));
-    assert!(rt; &values[26..30] == &[0, 0, 2, 77]);
+    assert!(rt; &values[26..30] == [0, 0, 2, 77].as_slice());
     assert!(rt; values[0] == 0 && values[1] == 0 && values[16] == 2);
     let mut short = [77; 28];
     valuation.letters[0] = 1;
@@ -250,7 +250,7 @@ fn evaluating_fills_and_refuses(rt: HostRuntime) -> Result<(), Fail> {
         evaluate(&store, &frame, &valuation, &mut values),
         Err(Refusal::LetterNotMember(26))
     );
-    assert!(rt; &values[26..30] == &[0, 0, 2, 77]);
+    assert!(rt; &values[26..30] == [0, 0, 2, 77].as_slice());
     assert!(rt; !short.contains(&0));
     Ok(())
 }

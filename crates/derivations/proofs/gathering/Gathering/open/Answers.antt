@@ -4,8 +4,8 @@ use Rattle.ledger.proofs.Calling.{begun}
 use Rattle.soundness.proofs.Sound.{sound as line_sound}
 use Rattle.derivations.proofs.gathering.Gathering.open.Goals as goal
 
-pub invariant-of-result : goal.invariant-of-result
-invariant-of-result c =
+pub invariant_of-result : goal.invariant_of-result
+invariant_of-result c =
     let few = c.args.self.few in
     (omega arith, (few, (c.args.self.fits, (∥∥₁_map c.args.self.recorded (λ r. (_, begun r.1 c.new.ensures)), tt))))
 

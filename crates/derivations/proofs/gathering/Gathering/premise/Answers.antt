@@ -18,9 +18,9 @@ returns-then-formula-count c = record {
   unchanged = refl;
 }
 
-pub returns-then-self-ge-MOST-PREMISES : goal.returns-then-self-ge-MOST-PREMISES
-returns-then-self-ge-MOST-PREMISES c = record {
-  exact = λ h g. inr (omega (arith, c.count.ensures), inl (refl, λ lt. omega (arith, premises_are g, c.if-self-ge-MOST-PREMISES.true)));
+pub returns-then-self-ge-MOST_PREMISES : goal.returns-then-self-ge-MOST_PREMISES
+returns-then-self-ge-MOST_PREMISES c = record {
+  exact = λ h g. inr (omega (arith, c.count.ensures), inl (refl, λ lt. omega (arith, premises_are g, c.if-self-ge-MOST_PREMISES.true)));
   sound = λ h x. line_sound _ h x.written;
   leaves = leaves_all _;
   unchanged = refl;
@@ -28,14 +28,14 @@ returns-then-self-ge-MOST-PREMISES c = record {
 
 pub returns-then-self : goal.returns-then-self
 returns-then-self c = record {
-  exact = λ h g. inr (omega (arith, c.count.ensures), inr (omega (arith, premises_are g, c.if-self-ge-MOST-PREMISES.false), inl (refl, λ r. omega (arith, g.recorded.counted, r.1))));
+  exact = λ h g. inr (omega (arith, c.count.ensures), inr (omega (arith, premises_are g, c.if-self-ge-MOST_PREMISES.false), inl (refl, λ r. omega (arith, g.recorded.counted, r.1))));
   sound = λ h x. line_sound _ h x.written;
   leaves = leaves_all _;
   unchanged = refl;
 }
 
-pub invariant-of-self : goal.invariant-of-self
-invariant-of-self c = (
+pub invariant_of-self : goal.invariant_of-self
+invariant_of-self c = (
   omega arith,
   (
     simp length-set (omega arith),

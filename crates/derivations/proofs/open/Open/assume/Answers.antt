@@ -19,24 +19,24 @@ returns-then-formula-count c = record {
   unchanged = refl;
 }
 
-pub returns-then-not-has-room : goal.returns-then-not-has-room
-returns-then-not-has-room c = record {
-  exact = λ h g. inr (omega (arith, c.count.ensures), inl (refl, λ few. both_ways _ c.if-not-has-room.true (c.has-room.ensures.1 (omega (arith, depth_is g)))));
+pub returns-then-not-has_room : goal.returns-then-not-has_room
+returns-then-not-has_room c = record {
+  exact = λ h g. inr (omega (arith, c.count.ensures), inl (refl, λ few. both_ways _ c.if-not-has_room.true (c.has_room.ensures.1 (omega (arith, depth_is g)))));
   sound = λ h x. line_sound _ h x.written;
   leaves = leaves_all _;
   unchanged = refl;
 }
 
-pub returns-then-not-has-room-2 : goal.returns-then-not-has-room-2
-returns-then-not-has-room-2 c =
-    let few = c.has-room.ensures.0 c.if-not-has-room.false in
+pub returns-then-not-has_room-2 : goal.returns-then-not-has_room-2
+returns-then-not-has_room-2 c =
+    let few = c.has_room.ensures.0 c.if-not-has_room.false in
     record {
       exact = λ h g.
           inr (
             omega (arith, c.count.ensures),
             inr (
               omega (arith, few, depth_is g),
-              inl (refl, λ r. both_ways _ c.if-not-has-room-2.true (c.has-room-2.ensures.1 (omega (arith, g.recorded.counted, r.0), omega (arith, g.recorded.counted, r.1)))),
+              inl (refl, λ r. both_ways _ c.if-not-has_room-2.true (c.has_room-2.ensures.1 (omega (arith, g.recorded.counted, r.0), omega (arith, g.recorded.counted, r.1)))),
             ),
           );
       sound = λ h x. line_sound _ h x.written;
@@ -44,11 +44,11 @@ returns-then-not-has-room-2 c =
       unchanged = refl;
     }
 
-pub invariant-of-self : goal.invariant-of-self
-invariant-of-self c =
+pub invariant_of-self : goal.invariant_of-self
+invariant_of-self c =
     let o = c.args.self.now in
-    let few = c.has-room.ensures.0 c.if-not-has-room.false in
-    let room = c.has-room-2.ensures.0 c.if-not-has-room-2.false in (
+    let few = c.has_room.ensures.0 c.if-not-has_room.false in
+    let room = c.has_room-2.ensures.0 c.if-not-has_room-2.false in (
       omega (arith, room.0),
       (
         o.few,
@@ -65,8 +65,8 @@ invariant-of-self c =
 pub returns : goal.returns
 returns c =
     let o = c.args.self.now in
-    let few = c.has-room.ensures.0 c.if-not-has-room.false in
-    let room = c.has-room-2.ensures.0 c.if-not-has-room-2.false in
+    let few = c.has_room.ensures.0 c.if-not-has_room.false in
+    let room = c.has_room-2.ensures.0 c.if-not-has_room-2.false in
     record {
       exact = λ h g. (
         (omega (arith, c.count.ensures), (omega (arith, few, depth_is g), ((omega (arith, g.recorded.counted, room.0), omega (arith, g.recorded.counted, room.1)), tt))),

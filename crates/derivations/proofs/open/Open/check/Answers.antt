@@ -51,8 +51,8 @@ returns-then-not-fits c h g =
       ),
     )
 
-pub returns-then-not-has-room : goal.returns-then-not-has-room
-returns-then-not-has-room c h g =
+pub returns-then-not-has_room : goal.returns-then-not-has_room
+returns-then-not-has_room c h g =
     let o = c.args.self.now in
     let is = c.args.citations.now in
     let cs = c.in-Ok.cited in
@@ -74,7 +74,7 @@ returns-then-not-has-room c h g =
               serves,
               inr (
                 fits_permits (formulas_in o) h c.args.rule is cs resolved o.mode c.args.formula stored placed c.fits.result c.fits.ensures serves c.if-not-fits.false,
-                inl (refl, λ r. both_ways _ c.if-not-has-room.true (c.has-room.ensures.1 (omega (arith, g.recorded.counted, r.0), omega (arith, g.recorded.counted, r.1)))),
+                inl (refl, λ r. both_ways _ c.if-not-has_room.true (c.has_room.ensures.1 (omega (arith, g.recorded.counted, r.0), omega (arith, g.recorded.counted, r.1)))),
               ),
             ),
           ),
@@ -93,7 +93,7 @@ returns c h g =
     let resolved = off_page c.page.ensures (λ fs. AllResolved fs h c.args.rule is cs) x.1 in
     let placed = off_page c.page.ensures (λ fs. AllPlaced fs (length is) cs) c.in-Ok.ensures.placed in
     let serves = c.serves.ensures.0 c.if-not-serves.false in
-    let room = c.has-room.ensures.0 c.if-not-has-room.false in (
+    let room = c.has_room.ensures.0 c.if-not-has_room.false in (
       stored,
       (
         a.0,

@@ -19,19 +19,19 @@ first_in o t e = (
   settled (dec_le _ _) o.recorded (λ r. (top_within r.1 (reach t) _ e).1),
 )
 
-pub returns-in-default : goal.returns-in-default
-returns-in-default c = record {
-  exact = λ h g. inl (refl, λ some. omega (arith, depth_is g, ap length c.in-default.ensures));
+pub returns-in_default : goal.returns-in_default
+returns-in_default c = record {
+  exact = λ h g. inl (refl, λ some. omega (arith, depth_is g, ap length c.in_default.ensures));
   sound = λ h x. line_sound _ h x.written;
   leaves = record { store = refl; mode = refl; premises = refl; rest = refl };
   unchanged = refl;
 }
 
-pub overflow-sub-self : goal.overflow-sub-self
-overflow-sub-self c = let p = first_in c.args.self.now c.in-Some.top c.in-Some.ensures in omega (arith, p.0)
+pub overflow_sub-self : goal.overflow_sub-self
+overflow_sub-self c = let p = first_in c.args.self.now c.in-Some.top c.in-Some.ensures in omega (arith, p.0)
 
-pub offset-bounds-self-top : goal.offset-bounds-self-top
-offset-bounds-self-top c =
+pub offset_bounds-self-top : goal.offset_bounds-self-top
+offset_bounds-self-top c =
     let p = first_in c.args.self.now c.in-Some.top c.in-Some.ensures in
     let m = c.args.self.now.small in
     omega (arith, p.1)
@@ -42,8 +42,8 @@ bounds-self-top c =
     let m = c.args.self.now.fits in
     omega (arith, p.0, p.1)
 
-pub invariant-of-self : goal.invariant-of-self
-invariant-of-self c =
+pub invariant_of-self : goal.invariant_of-self
+invariant_of-self c =
     let o = c.args.self.now in (
       o.small,
       (

@@ -15,20 +15,20 @@ returns-in-Err c = record { exact = c.in-Err.ensures; sound = λ h x. line_sound
 
 pub bounds-self-self : goal.bounds-self-self
 bounds-self-self c =
-    settled (dec_lt _ _) c.args.self.now.recorded (λ r. let t = (c.in-default.ensures r.0 r.1).1.1.1.1.1.1.0 in omega (arith, r.1.recorded.counted, t.1))
+    settled (dec_lt _ _) c.args.self.now.recorded (λ r. let t = (c.in_default.ensures r.0 r.1).1.1.1.1.1.1.0 in omega (arith, r.1.recorded.counted, t.1))
 
-pub invariant-of-self : goal.invariant-of-self
-invariant-of-self c =
+pub invariant_of-self : goal.invariant_of-self
+invariant_of-self c =
     let o = c.args.self.now in (
-      settled (dec_le _ _) o.recorded (λ r. let t = (c.in-default.ensures r.0 r.1).1.1.1.1.1.1.0 in omega (arith, r.1.recorded.counted, t.0)),
+      settled (dec_le _ _) o.recorded (λ r. let t = (c.in_default.ensures r.0 r.1).1.1.1.1.1.1.0 in omega (arith, r.1.recorded.counted, t.0)),
       (
         o.few,
         (
-          settled (dec_le _ _) o.recorded (λ r. let t = (c.in-default.ensures r.0 r.1).1.1.1.1.1.1.0 in simp length-set (omega (arith, r.1.recorded.counted, t.1))),
+          settled (dec_le _ _) o.recorded (λ r. let t = (c.in_default.ensures r.0 r.1).1.1.1.1.1.1.0 in simp length-set (omega (arith, r.1.recorded.counted, t.1))),
           (
             ∥∥₁_map o.recorded
                 (λ r.
-                let t = c.in-default.ensures r.0 r.1 in
+                let t = c.in_default.ensures r.0 r.1 in
                 let u = t.1.1.1.1.1 in
                 (_, add_step r.1 c.args.formula _ _ t.0 (omega (arith, r.1.recorded.counted, u.1.0.0)) (omega (arith, r.1.recorded.counted, u.1.0.1)) c.padded.ensures c.innermost-inside.ensures c.extend.ensures u.0)),
             tt,
@@ -40,7 +40,7 @@ invariant-of-self c =
 pub returns : goal.returns
 returns c = record {
   exact = λ h g.
-      let t = c.in-default.ensures h g in
+      let t = c.in_default.ensures h g in
       let u = t.1.1.1.1.1 in (
         t,
         omega (arith, g.recorded.counted),

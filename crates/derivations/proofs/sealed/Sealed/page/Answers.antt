@@ -2,8 +2,8 @@ use mathlib.Core.Logic.{∥∥₁_map}
 use Rattle.std.proofs.Common.{refl, arith}
 use Rattle.derivations.proofs.sealed.Sealed.page.Goals as goal
 
-pub invariant-of-result : goal.invariant-of-result
-invariant-of-result c =
+pub invariant_of-result : goal.invariant_of-result
+invariant_of-result c =
     let d = c.args.self.now in
     (d.small, (d.fits, (∥∥₁_map d.recorded (λ r. (r.0, r.1.recorded)), tt)))
 

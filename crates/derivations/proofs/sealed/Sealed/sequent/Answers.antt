@@ -28,8 +28,8 @@ returns-then-last-eq0 c =
     record {
       exact = λ h g.
           inr (
-            none_open d h g c.in-default.ensures,
-            inl (refl, λ t. unconcluded d.fits g.recorded c.last-top-last.result (last_top_is c.page.ensures _ c.last-top-last.ensures) c.if-last-eq0.true t.0 t.1 t.2),
+            none_open d h g c.in_default.ensures,
+            inl (refl, λ t. unconcluded d.fits g.recorded c.last_top-last.result (last_top_is c.page.ensures _ c.last_top-last.ensures) c.if-last-eq0.true t.0 t.1 t.2),
           );
       entails = tt;
     }
@@ -37,10 +37,10 @@ returns-then-last-eq0 c =
 pub returns : goal.returns
 returns c =
     let d = c.args.self.now in
-    let top = last_top_is c.page.ensures _ c.last-top-last.ensures in
-    let last = λ (h : History) (g : Finished d h). concluded d.fits g.recorded c.last-top-last.result top c.if-last-eq0.false in
+    let top = last_top_is c.page.ensures _ c.last_top-last.ensures in
+    let last = λ (h : History) (g : Finished d h). concluded d.fits g.recorded c.last_top-last.result top c.if-last-eq0.false in
     let shows = λ (h : History) (g : Finished d h). sequent_of d.fits g _ refl refl c.premise_places.ensures (g.recorded.stored _ (omega (arith, top.within, c.if-last-eq0.false))) (last h g) in
     record {
-      exact = λ h g. ((none_open d h g c.in-default.ensures, (((last h g).end, _, (last h g).last), tt)), shows h g);
+      exact = λ h g. ((none_open d h g c.in_default.ensures, (((last h g).end, _, (last h g).last), tt)), shows h g);
       entails = sequent_entails d _ shows;
     }
