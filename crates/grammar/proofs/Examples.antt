@@ -1,7 +1,7 @@
 -- The examples, from the definitions.
 use Rattle.std.proofs.Common.{◌≡◌, ℕ, zero, suc, ◌+◌, ◌<◌, ◌≤◌, List, [], ◌∷◌, length, Ok, Err, codes, refl, arith, lit<, lit≤}
 use Rattle.grammar.specs.Formula.{Formula, negation}
-use Rattle.grammar.specs.Formula.Formula.{falsum, letter, joined}
+use Rattle.grammar.specs.Formula.Formula.{letter}
 use Rattle.grammar.specs.Symbols.{signs}
 use Rattle.grammar.specs.Texts.{Text, NoFormula}
 use Rattle.grammar.specs.Contents.{formula_at, basic, entered}
