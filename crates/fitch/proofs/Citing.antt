@@ -2,7 +2,7 @@
 use Rattle.std.proofs.Common.{◌≡◌, ℕ, List, ◌∷◌, Some, sym, ap, ◌∙◌, subst, ap₂, arith}
 use Rattle.grammar.specs.Formula.{Formula}
 use Rattle.fitch.specs.History.{History, Box, Line, line_at, outer, Stands, Reads, Shows}
-use Rattle.fitch.specs.Rules.{Cited, line, box}
+use Rattle.fitch.specs.Rules.{line, box}
 use Rattle.fitch.specs.Exact.{CitedOnce}
 
 -- a line has one formula, and one list of boxes

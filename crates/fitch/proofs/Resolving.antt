@@ -5,7 +5,7 @@ use Rattle.grammar.specs.Formula.{Formula}
 use Rattle.grammar.specs.Formula.Formula.{falsum}
 use Rattle.fitch.specs.History.{History, Cites, CitesAll, Permits}
 use Rattle.fitch.specs.Rules.{Cited, line, kind, kinds, Fits, Serves}
-use Rattle.fitch.specs.Exact.{Reached, AllReached, OfTheirKinds}
+use Rattle.fitch.specs.Exact.{AllReached, OfTheirKinds}
 use Rattle.fitch.specs.declared.mode.Mode.{Mode}
 use Rattle.fitch.specs.declared.rule.Rule.{Rule}
 use Rattle.fitch.specs.declared.rule.Rule.TheVariants.{Reiterate, AndIntro, AndLeft, AndRight, OrLeft, OrRight, OrElim, ImpIntro, ImpElim, ExFalso, Reductio}

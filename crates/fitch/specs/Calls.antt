@@ -8,7 +8,6 @@ use Rattle.fitch.specs.History.{History, Line, premise, assume, step, close, cou
 use Rattle.fitch.specs.Limits.{most_premises, most_lines, most_boxes}
 use Rattle.fitch.specs.Rules.{kinds, Serves}
 use Rattle.fitch.specs.declared.mode.Mode.{Mode}
-use Rattle.fitch.specs.declared.refusal.Refusal.{Refusal}
 use Rattle.fitch.specs.declared.refusal.Refusal.TheVariants.{NotStored, ManyPremises, NoRecord, ManyBoxes, WrongNumber, NoSuchLine, NotReachable, NotOfMode, DoesNotFit, NoOpenBox, BoxOpen, NoTopLine}
 use Rattle.fitch.specs.declared.rule.Rule.{Rule}
 

@@ -1,13 +1,13 @@
 -- When a rule gives a formula, place by place.
-use Rattle.std.proofs.Common.{◌≡◌, ℕ, ◌<◌, Bool, true, false, eqb, List, [], ◌∷◌, length, Decides, sym, refl, ap, ◌∙◌, arith, eq-eqb, eqb-true}
+use Rattle.std.proofs.Common.{◌≡◌, ℕ, ◌<◌, Bool, false, eqb, List, [], ◌∷◌, length, Decides, sym, ap, ◌∙◌, arith, eq-eqb, eqb-true}
 use borrow.Author.Tests.{clash}
 use Rattle.grammar.specs.Contents.{formula_at, Base, Once}
 use Rattle.grammar.specs.Formula.{Formula}
-use Rattle.grammar.specs.Formula.Formula.{falsum, joined}
+use Rattle.grammar.specs.Formula.Formula.{falsum}
 use Rattle.grammar.specs.declared.connective.Connective.{Connective}
 use Rattle.grammar.specs.declared.connective.Connective.TheVariants.{And, Or, Implies}
 use Rattle.grammar.proofs.Sameness.{same_true, one_place}
-use Rattle.fitch.specs.Rules.{line, box}
+use Rattle.fitch.specs.Rules.{line}
 use Rattle.fitch.specs.declared.rule.Rule.TheVariants.{Reiterate, AndLeft, AndRight, OrLeft, OrRight, OrElim, ImpElim, ExFalso, Reductio}
 use Rattle.shapes.specs.Giving.{Gives}
 use Rattle.shapes.specs.Joined.{Joined}

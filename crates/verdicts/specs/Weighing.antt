@@ -1,17 +1,17 @@
 -- What weighing a sequent in an algebra answers.
-use Rattle.std.specs.Prelude.{◌≡◌, ℕ, ◌<◌, true, ◌⊎◌, List, map, length, Ok, Err, Decides, fold, Result, slice_index}
+use Rattle.std.specs.Prelude.{◌≡◌, ℕ, ◌<◌, true, List, map, length, Ok, Err, Decides, fold, Result, slice_index}
 use Rattle.grammar.specs.Contents.{formula_at}
 use Rattle.grammar.specs.Formula.{Formula}
 use Rattle.heyting.specs.Evaluating.{Evaluated, Unevaluated}
 use Rattle.heyting.specs.Meaning.{Meaning, Member, Below, negation}
 use Rattle.heyting.specs.Values.{value, meet_all}
-use Rattle.heyting.specs.declared.refusal.Refusal.{Refusal}
-use Rattle.heyting.specs.declared.refusal.Refusal.TheVariants.{NotStored}
 use Rattle.fitch.specs.declared.mode.Mode.{Mode}
 use Rattle.fitch.specs.declared.mode.Mode.TheVariants.{Constructive, Classical}
 use Rattle.ledger.specs.Sequents.{premise_places}
 use Rattle.ledger.specs.declared.sequent.Sequent.{Sequent}
 use Rattle.soundness.specs.Soundness.{Entails}
+use Rattle.verdicts.specs.declared.refusal.Unweighable.{Unweighable}
+use Rattle.verdicts.specs.declared.refusal.Unweighable.TheVariants.{NotStored, NotEvaluated}
 use Rattle.verdicts.specs.declared.verdict.Verdict.{Verdict}
 
 -- the premises and the conclusion of a sequent, where fs are stored
@@ -36,12 +36,12 @@ pub record Weighs (m : Meaning) (fs : List Formula) (v : List ℕ) (s : Sequent)
   pub holds : Decides verdict.holds (Below m verdict.meet verdict.conclusion)
 
 -- why a sequent is not weighed: a place that holds no formula, or else what evaluating refuses
-abbrev pub Unweighed : Meaning → List Formula → List ℕ → Sequent → List ℕ → Refusal → Type 0
-Unweighed m fs v s buffer refusal =
-    ((refusal ≡ NotStored) × (Stored fs s → ⊥)) ⊎ (Stored fs s × Unevaluated m fs v buffer refusal)
+abbrev pub Unweighed : Meaning → List Formula → List ℕ → Sequent → List ℕ → Unweighable → Type 0
+Unweighed m fs v s buffer NotStored = Stored fs s → ⊥
+Unweighed m fs v s buffer (NotEvaluated refusal) = Stored fs s × Unevaluated m fs v buffer refusal
 
 -- the buffer as it was and as it is, and the answer: the verdict with every value in the buffer, or a refusal that changes nothing
-abbrev pub Weighed : Meaning → List Formula → List ℕ → Sequent → List ℕ → List ℕ → Result Verdict Refusal → Type 0
+abbrev pub Weighed : Meaning → List Formula → List ℕ → Sequent → List ℕ → List ℕ → Result Verdict Unweighable → Type 0
 Weighed m fs v s before after (Ok verdict) = Stored fs s × Evaluated m fs v before after (Ok tt) × Weighs m fs v s verdict
 Weighed m fs v s before after (Err refusal) = Unweighed m fs v s before refusal × (after ≡ before)
 
@@ -51,7 +51,7 @@ Confirms Constructive m verdict = verdict.holds ≡ true
 Confirms Classical m verdict = Below m verdict.meet (negation m (negation m verdict.conclusion))
 
 -- a verdict confirms what the premises entail
-abbrev pub Follows : Meaning → List Formula → Sequent → Result Verdict Refusal → Type 0
+abbrev pub Follows : Meaning → List Formula → Sequent → Result Verdict Unweighable → Type 0
 Follows m fs s (Ok verdict) = Entails s.mode (premises_of fs s) (conclusion_of fs s) → Confirms s.mode m verdict
 Follows m fs s (Err refusal) = Unit {0}
 

@@ -4,10 +4,10 @@ ghost use Rattle.formulas.specs.Stores.{contents};
 ghost use Rattle.heyting.specs.Meaning.{Member, Below};
 ghost use Rattle.verdicts.specs.Weighing.{AllBelow, Stored, Valued, meet_at, Weighed, Follows};
 
+use crate::refusal::Unweighable;
 use crate::verdict::Verdict;
 use algebras::algebra::Algebra;
 use formulas::store::Store;
-use heyting::refusal::Refusal;
 use ledger::sequent::Sequent;
 use weighing::evaluate::evaluate;
 use weighing::valuation::Valuation;
@@ -62,14 +62,16 @@ pub fn weigh<A: Algebra>(
     algebra: &A,
     valuation: &Valuation,
     values: &mut [u32],
-) -> Result<Verdict, Refusal>
+) -> Result<Verdict, Unweighable>
     ensures exact { Weighed (A.Algebra.means algebra.now) (contents store.now) valuation.now.letters sequent.now values.old values.new result }
     ensures follows { Follows (A.Algebra.means algebra.now) (contents store.now) sequent.now result }
 {
     if !is_stored(sequent, store) {
-        return Err(Refusal::NotStored);
+        return Err(Unweighable::NotStored);
     }
-    evaluate(store, algebra, valuation, values)?;
+    if let Err(refusal) = evaluate(store, algebra, valuation, values) {
+        return Err(Unweighable::NotEvaluated(refusal));
+    }
     let meet = meet_of_places(algebra, values, sequent.premises());
     let conclusion = values[sequent.conclusion];
     Ok(Verdict {

@@ -12,10 +12,10 @@ loop-place-preserved g c =
     let places = c.args.places.now in
     let i = c.loop-place.place-index in
     let within : i < length places = search rules in (
-      c.meet-of-meet.ensures
+      c.meet_of-meet.ensures
           ∙ ap (λ a. m.meet a (get_or values (get_or places i 0) 0)) c.loop-place.invariant.0
           ∙ sym (fold_more (λ a place. m.meet a (get_or values place 0)) m.top places i 0 within),
-      subst (Member m) (sym c.meet-of-meet.ensures)
+      subst (Member m) (sym c.meet_of-meet.ensures)
           ((g.A.Algebra.lawful c.args.algebra.now).meet_in _ _ c.loop-place.invariant.1 (c.requires i within).1),
     )
 

@@ -4,21 +4,21 @@ use Rattle.verdicts.proofs.Following.{confirms}
 use Rattle.verdicts.proofs.Meeting.{member_at, valued, weighs}
 use Rattle.verdicts.proofs.weigh.weigh.Goals as goal
 
-pub meet-of-places-meet-requires : goal.meet-of-places-meet-requires
-meet-of-places-meet-requires g c =
+pub meet_of_places-meet-requires : goal.meet_of_places-meet-requires
+meet_of_places-meet-requires g c =
     let algebra = c.args.algebra.now in
     let m = g.A.Algebra.means algebra in
-    let stored = c.if-not-is-stored.ensures.0 refl in
+    let stored = c.if-not-is_stored.ensures.0 refl in
     subst (Valued m c.evaluate.new.values) (sym c.premises.ensures)
-    (valued m (g.A.Algebra.lawful algebra) _ _ _ _ c.in-ok-evaluate.ensures _ stored.premises)
+    (valued m (g.A.Algebra.lawful algebra) _ _ _ _ c.in_default.ensures _ stored.premises)
 
-pub is-below-requires : goal.is-below-requires
-is-below-requires g c =
+pub is_below-requires : goal.is_below-requires
+is_below-requires g c =
     let algebra = c.args.algebra.now in
-    let stored = c.if-not-is-stored.ensures.0 refl in
-    let meet_in = c.meet-of-places-meet.ensures.member in
+    let stored = c.if-not-is_stored.ensures.0 refl in
+    let meet_in = c.meet_of_places-meet.ensures.member in
     let conclusion_in =
-    member_at (g.A.Algebra.means algebra) (g.A.Algebra.lawful algebra) _ _ _ _ c.in-ok-evaluate.ensures _ stored.conclusion in
+    member_at (g.A.Algebra.means algebra) (g.A.Algebra.lawful algebra) _ _ _ _ c.in_default.ensures _ stored.conclusion in
     search rules
 
 pub returns : goal.returns
@@ -26,11 +26,11 @@ returns g c =
     let algebra = c.args.algebra.now in
     let m = g.A.Algebra.means algebra in
     let lawful = g.A.Algebra.lawful algebra in
-    let stored = c.if-not-is-stored.ensures.0 refl in
-    let evaluated = c.in-ok-evaluate.ensures in
+    let stored = c.if-not-is_stored.ensures.0 refl in
+    let evaluated = c.in_default.ensures in
     let weighed =
-    weighs m lawful _ _ _ _ evaluated c.args.sequent.now stored c.meet-of-places-meet.result c.is-below.result
-    (c.meet-of-places-meet.ensures.meet ∙ ap (meet_at m c.evaluate.new.values) c.premises.ensures) c.is-below.ensures in
+    weighs m lawful _ _ _ _ evaluated c.args.sequent.now stored c.meet_of_places-meet.result c.is_below.result
+    (c.meet_of_places-meet.ensures.meet ∙ ap (meet_at m c.evaluate.new.values) c.premises.ensures) c.is_below.ensures in
     record {
       exact = (stored, evaluated, weighed);
       follows = confirms m lawful _ evaluated.1 _ _ _ weighed c.args.sequent.now.mode;

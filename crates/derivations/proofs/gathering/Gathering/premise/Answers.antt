@@ -35,16 +35,11 @@ returns-then-self c = record {
 }
 
 pub invariant_of-self : goal.invariant_of-self
-invariant_of-self c = (
-  omega arith,
-  (
-    simp length-set (omega arith),
-    (
-      ∥∥₁_map c.args.self.now.recorded (λ r. (_, gather r.1 c.args.formula (omega (arith, c.count.ensures)) (omega arith) c.if-self.false)),
-      tt,
-    ),
-  ),
-)
+invariant_of-self c = record {
+  few = omega arith;
+  fits = simp length-set (omega arith);
+  recorded = ∥∥₁_map c.args.self.now.recorded (λ r. (_, gather r.1 c.args.formula (omega (arith, c.count.ensures)) (omega arith) c.if-self.false));
+}
 
 pub returns : goal.returns
 returns c = record {

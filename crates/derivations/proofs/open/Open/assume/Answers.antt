@@ -48,19 +48,13 @@ pub invariant_of-self : goal.invariant_of-self
 invariant_of-self c =
     let o = c.args.self.now in
     let few = c.has_room.ensures.0 c.if-not-has_room.false in
-    let room = c.has_room-2.ensures.0 c.if-not-has_room-2.false in (
-      omega (arith, room.0),
-      (
-        o.few,
-        (
-          simp length-set (omega (arith, room.1)),
-          (
-            ∥∥₁_map o.recorded (λ r. (_, add_box r.1 c.args.formula _ _ (omega (arith, c.count.ensures)) few room.0 room.1 refl c.innermost-around.ensures (c.open.ensures.opened few).1)),
-            tt,
-          ),
-        ),
-      ),
-    )
+    let room = c.has_room-2.ensures.0 c.if-not-has_room-2.false in
+    record {
+      small = omega (arith, room.0);
+      few = o.few;
+      fits = simp length-set (omega (arith, room.1));
+      recorded = ∥∥₁_map o.recorded (λ r. (_, add_box r.1 c.args.formula _ _ (omega (arith, c.count.ensures)) few room.0 room.1 refl c.innermost-around.ensures (c.open.ensures.opened few).1));
+    }
 
 pub returns : goal.returns
 returns c =

@@ -44,19 +44,13 @@ bounds-self-top c =
 
 pub invariant_of-self : goal.invariant_of-self
 invariant_of-self c =
-    let o = c.args.self.now in (
-      o.small,
-      (
-        o.few,
-        (
-          simp length-set o.fits,
-          (
-            ∥∥₁_map o.recorded (λ r. (_, end_box r.1 (reach c.in-Some.top) o.fits c.in-Some.ensures c.close.ensures)),
-            tt,
-          ),
-        ),
-      ),
-    )
+    let o = c.args.self.now in
+    record {
+      small = o.small;
+      few = o.few;
+      fits = simp length-set o.fits;
+      recorded = ∥∥₁_map o.recorded (λ r. (_, end_box r.1 (reach c.in-Some.top) o.fits c.in-Some.ensures c.close.ensures));
+    }
 
 pub returns : goal.returns
 returns c =

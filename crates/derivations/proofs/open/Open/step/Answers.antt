@@ -19,23 +19,17 @@ bounds-self-self c =
 
 pub invariant_of-self : goal.invariant_of-self
 invariant_of-self c =
-    let o = c.args.self.now in (
-      settled (dec_le _ _) o.recorded (λ r. let t = (c.in_default.ensures r.0 r.1).1.1.1.1.1.1.0 in omega (arith, r.1.recorded.counted, t.0)),
-      (
-        o.few,
-        (
-          settled (dec_le _ _) o.recorded (λ r. let t = (c.in_default.ensures r.0 r.1).1.1.1.1.1.1.0 in simp length-set (omega (arith, r.1.recorded.counted, t.1))),
-          (
-            ∥∥₁_map o.recorded
-                (λ r.
-                let t = c.in_default.ensures r.0 r.1 in
-                let u = t.1.1.1.1.1 in
-                (_, add_step r.1 c.args.formula _ _ t.0 (omega (arith, r.1.recorded.counted, u.1.0.0)) (omega (arith, r.1.recorded.counted, u.1.0.1)) c.padded.ensures c.innermost-inside.ensures c.extend.ensures u.0)),
-            tt,
-          ),
-        ),
-      ),
-    )
+    let o = c.args.self.now in
+    record {
+      small = settled (dec_le _ _) o.recorded (λ r. let t = (c.in_default.ensures r.0 r.1).1.1.1.1.1.1.0 in omega (arith, r.1.recorded.counted, t.0));
+      few = o.few;
+      fits = settled (dec_le _ _) o.recorded (λ r. let t = (c.in_default.ensures r.0 r.1).1.1.1.1.1.1.0 in simp length-set (omega (arith, r.1.recorded.counted, t.1)));
+      recorded = ∥∥₁_map o.recorded
+          (λ r.
+          let t = c.in_default.ensures r.0 r.1 in
+          let u = t.1.1.1.1.1 in
+          (_, add_step r.1 c.args.formula _ _ t.0 (omega (arith, r.1.recorded.counted, u.1.0.0)) (omega (arith, r.1.recorded.counted, u.1.0.1)) c.padded.ensures c.innermost-inside.ensures c.extend.ensures u.0));
+    }
 
 pub returns : goal.returns
 returns c = record {

@@ -1,5 +1,5 @@
 use denote.Enum.Bare.{sameb, same_true}
-use Rattle.std.proofs.Common.{rules, ◌≡◌, Bool, true, false, cond, [], ◌∷◌, ◌++◌, sym, ap, ◌∙◌, ⊎_elim, arith}
+use Rattle.std.proofs.Common.{rules, ◌≡◌, [], ◌∷◌, ◌++◌, sym, ap, ◌∙◌, ⊎_elim, arith}
 use Rattle.std.proofs.lemmas.Bool.{false≢true}
 use Rattle.grammar.specs.Writing.{text_at}
 use Rattle.grammar.specs.contracts.connective.Connective.{the_type}
