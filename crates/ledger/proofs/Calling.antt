@@ -4,9 +4,8 @@ use Rattle.std.proofs.lemmas.List.{take_more_set, map_push, map-set, get_or-take
 use Rattle.grammar.specs.Contents.{formula_at}
 use Rattle.grammar.specs.Formula.{Formula}
 use Rattle.fitch.specs.History.{History, premise, begin, assume, step, close, count, outer, boxes, premises, Permits}
-use Rattle.fitch.specs.Records.{Kept, plain, blank, with_end, records, padded, table, Reach, moved, top_first, innermost, ended}
+use Rattle.fitch.specs.Records.{plain, blank, with_end, records, padded, table, Reach, moved, top_first, innermost, ended}
 use Rattle.fitch.specs.declared.mode.Mode.{Mode}
-use Rattle.fitch.specs.declared.rule.Reason.{Reason}
 use Rattle.fitch.specs.declared.rule.Reason.TheVariants.{Premise, Assumption, Step}
 use Rattle.fitch.specs.declared.rule.Rule.{Rule}
 use Rattle.fitch.proofs.Keeping.{table_top, table_depth, table_within}

@@ -1,14 +1,14 @@
 -- The last line that no box contains.
-use Rattle.std.proofs.Common.{◌≡◌, ℕ, zero, suc, ◌-◌, ◌<◌, ◌≤◌, List, [], length, get_or, Some, None, sym, refl, ap, ◌∙◌, subst, arith}
+use Rattle.std.proofs.Common.{◌≡◌, ℕ, zero, suc, ◌-◌, ◌<◌, ◌≤◌, List, [], length, get_or, sym, ap, ◌∙◌, subst, arith}
 use native.Mathlib.Decide.{dec_lt}
 use Rattle.std.proofs.lemmas.Option.{slice_get_past}
 use Rattle.grammar.specs.Contents.{formula_at}
 use Rattle.grammar.specs.Formula.{Formula}
-use Rattle.fitch.specs.History.{History, count, lines, Stands}
+use Rattle.fitch.specs.History.{History, lines, Stands}
 use Rattle.fitch.specs.Records.{Kept}
-use Rattle.fitch.specs.Exact.{kept_at, Told, Concludes}
+use Rattle.fitch.specs.Exact.{Concludes}
 use Rattle.fitch.proofs.Nesting.{count_lines}
-use Rattle.ledger.specs.Recorded.{no_line, kept, Recorded}
+use Rattle.ledger.specs.Recorded.{no_line, Recorded}
 use Rattle.ledger.specs.Telling.{LastTop}
 use Rattle.ledger.specs.declared.line.Line.{Line}
 use Rattle.ledger.proofs.Recording.{kept_entry, told}

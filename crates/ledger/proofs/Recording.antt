@@ -1,20 +1,19 @@
 -- What the records say of the history that they record.
-use Rattle.std.proofs.Common.{◌≡◌, ℕ, zero, suc, ◌+◌, ◌-◌, ◌<◌, ◌≤◌, ◌≢◌, ◌⊎◌, List, [], ◌∷◌, ◌++◌, map, length, get_or, take, set, Some, None, sym, refl, ap, ◌∙◌, subst, ap₂, inl, inr, arith}
+use Rattle.std.proofs.Common.{◌≡◌, ℕ, zero, suc, ◌+◌, ◌-◌, ◌<◌, ◌≤◌, ◌≢◌, ◌⊎◌, List, [], ◌∷◌, map, length, get_or, take, set, Some, None, sym, refl, ap, ◌∙◌, subst, inl, inr, arith}
 use mathlib.Core.Logic.{∥∥₁_elim}
-use native.Mathlib.Decide.{dec_lt, dec_le}
-use Rattle.std.specs.List.{slice_get, AllByRecursion as All}
+use native.Mathlib.Decide.{dec_lt}
+use Rattle.std.specs.List.{AllByRecursion as All}
 use Rattle.std.proofs.lemmas.Option.{slice_get_past, slice_get-get_or}
-use Rattle.std.proofs.lemmas.List.{get_or-map, get_or-take, length-take-le, take_more_set, map_push, map-set, get_or-set_same, get_or-set_other, length-map}
+use Rattle.std.proofs.lemmas.List.{get_or-map, get_or-take, length-take-le, get_or-set_same, get_or-set_other, length-map}
 use Rattle.grammar.specs.Contents.{formula_at}
 use Rattle.grammar.specs.Formula.{Formula}
 use Rattle.grammar.specs.Formula.Formula.{falsum}
-use Rattle.fitch.specs.History.{History, count, line_at, lines, Reads, Shows}
+use Rattle.fitch.specs.History.{History, line_at, lines, Reads, Shows}
 use Rattle.fitch.specs.History.{Line as HLine}
 use Rattle.fitch.specs.Rules.{Cited, line, box}
-use Rattle.fitch.specs.Records.{Kept, plain, blank, records, table, Reach}
+use Rattle.fitch.specs.Records.{Kept, blank}
 use Rattle.fitch.specs.Exact.{kept_at, StillOpen, Told, Resolved, Reached, AllReached}
 use Rattle.fitch.proofs.Nesting.{count_lines}
-use Rattle.fitch.proofs.Keeping.{count_records}
 use Rattle.fitch.proofs.Telling.{numbered_boxes}
 use Rattle.fitch.specs.declared.rule.Kind.TheVariants.{Line as a_line, Box as a_box}
 use Rattle.fitch.specs.declared.rule.Rule.{Rule}

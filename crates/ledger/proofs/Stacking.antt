@@ -2,8 +2,8 @@
 use Rattle.std.proofs.Common.{◌≡◌, ℕ, zero, suc, ◌+◌, ◌-◌, ◌<◌, ◌≤◌, ◌≢◌, List, [], ◌∷◌, length, get_or, set, sym, refl, ap, ◌∙◌, ap₂, add-one, arith}
 use Rattle.std.proofs.lemmas.List.{get_or-set_same, get_or-set_other}
 use Rattle.fitch.specs.History.{outer}
-use Rattle.fitch.specs.Records.{Reach, moved, top_first}
-use Rattle.ledger.specs.Stack.{reach, fresh_box, no_box, stacked}
+use Rattle.fitch.specs.Records.{moved, top_first}
+use Rattle.ledger.specs.Stack.{reach, no_box, stacked}
 use Rattle.ledger.specs.declared.open_box.OpenBox.{OpenBox}
 
 pub length_stacked : (bs : List OpenBox) (d : ℕ) → length (stacked bs d) ≡ d
