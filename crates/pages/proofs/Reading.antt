@@ -1,5 +1,5 @@
 -- What is read of a page holds of the store and the line records that it is of.
-use Rattle.std.proofs.Common.{◌≡◌, ℕ, List, sym, ap, subst}
+use Rattle.std.proofs.Common.{ℕ, List, sym, subst}
 use Rattle.formulas.specs.Stores.{contents}
 use Rattle.formulas.specs.declared.store.Store.{Store}
 use Rattle.grammar.specs.Formula.{Formula}

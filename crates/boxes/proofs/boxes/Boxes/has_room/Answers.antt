@@ -1,4 +1,4 @@
-use Rattle.std.proofs.Common.{sym, ap, arith, ltb-true, lt-ltb}
+use Rattle.std.proofs.Common.{arith, ltb-true, lt-ltb}
 use Rattle.ledger.proofs.Stacking.{length_stacked}
 use Rattle.boxes.proofs.boxes.Boxes.has_room.Goals as goal
 

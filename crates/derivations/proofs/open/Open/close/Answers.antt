@@ -1,4 +1,4 @@
-use Rattle.std.proofs.Common.{◌≡◌, ◌<◌, ◌≤◌, ◌∷◌, length, sym, refl, ap, ◌∙◌, inl, arith}
+use Rattle.std.proofs.Common.{◌≡◌, ◌<◌, ◌≤◌, ◌∷◌, length, refl, ap, inl, arith}
 use mathlib.Core.Logic.{∥∥₁_map}
 use native.Mathlib.Decide.{dec_lt, dec_le}
 use Rattle.std.proofs.lemmas.List.{length-set, drop-set-lt}

@@ -2,9 +2,6 @@ use Rattle.std.proofs.Common.{refl, arith}
 use mathlib.Core.Logic.{∥∥₁_map}
 use native.Mathlib.Decide.{dec_lt, dec_le}
 use Rattle.std.proofs.lemmas.List.{length-set, drop-set-lt}
-use Rattle.fitch.specs.Calls.{Room}
-use Rattle.fitch.specs.Checks.{Accepted}
-use Rattle.fitch.specs.History.{History}
 use Rattle.ledger.proofs.Calling.{add_step}
 use Rattle.ledger.proofs.Recording.{settled}
 use Rattle.soundness.proofs.Sound.{sound as line_sound}

@@ -1,5 +1,5 @@
 use mathlib.Core.Logic.{∥∥₁_map}
-use Rattle.std.proofs.Common.{refl, arith}
+use Rattle.std.proofs.Common.{refl}
 use Rattle.derivations.proofs.sealed.Sealed.page.Goals as goal
 
 pub invariant_of-result : goal.invariant_of-result

@@ -1,5 +1,4 @@
 use Rattle.std.proofs.Common.{◌≡◌, [], length, sym, refl, ap, ◌∙◌, inl, inr, arith}
-use native.Mathlib.Decide.{dec_le}
 use Rattle.std.proofs.lemmas.List.{nil_from_length}
 use Rattle.fitch.specs.History.{History, boxes}
 use Rattle.ledger.proofs.Calling.{depth_is}
