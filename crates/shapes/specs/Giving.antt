@@ -1,6 +1,6 @@
 -- What a rule gives, by places.
 use Rattle.std.specs.Prelude.{ℕ, ◌<◌, List, map, length}
-use Rattle.std.specs.List.{AllByRecursion as All}
+use Rattle.std.specs.List.{AllByRecursion}
 use Rattle.grammar.specs.Contents.{formula_at}
 use Rattle.grammar.specs.Formula.{Formula}
 use Rattle.fitch.specs.Rules.{line, box, Fits}
@@ -21,5 +21,5 @@ Placed fs (Box a e) = (a < length fs) × (e < length fs)
 -- all places are stored, and the rule gives the formula from what is cited
 pub record Gives (fs : List Formula) (place : ℕ) (r : Rule) (cs : List Cited) : Type 0 where
   pub stored : place < length fs
-  pub cited : All (Placed fs) cs
+  pub cited : AllByRecursion (Placed fs) cs
   pub fits : Fits r (formula_at fs place) (map (meaning fs) cs)
