@@ -1,7 +1,7 @@
 // The trait that every algebra implements.
 //
-//   algebra::Algebra         what an algebra answers; write your own against it
-//   shared::SharedAlgebra    a reference to an algebra is an algebra
+//   algebra::Algebra   what an algebra answers; write your own against it
+//   shared             a reference to an algebra is an algebra
 #![tactic(auto)]
 
 pub mod algebra;

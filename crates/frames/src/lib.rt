@@ -3,7 +3,7 @@
 //   frame::Frame                a frame of 1 to 12 worlds
 //     Frame::new                a single world
 //     load                      worlds and pairs, each a world and one above it
-//   frame::ops::FrameAlgebra    a frame as an algebra
+//   frame::ops                  a frame as an algebra
 #![tactic(auto)]
 
 pub mod frame;
