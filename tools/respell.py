@@ -16,7 +16,7 @@ NAME = r"[A-Za-z][A-Za-z0-9_'ℕ-]*"
 HEAD = re.compile(r"\s*(?:(?:abbrev|unfoldable|pub|data|record|ruleset)\s+)*(" + NAME + "(?: " + NAME + ")*) *(?:[({].*)?:")
 LOCAL = re.compile(r"\b(?:let|as) (" + NAME + r")(?= *[=:,}])")
 LIBRARY = re.compile(r"\s*(?:ghost )?use (?:Rattle\.std|borrow|native|Prim|denote|lib|mathlib|logic|core)[\w.]*\.\{(.*)\}")
-STRING = re.compile(r'b?"(?:[^"\\\\]|\\\\.)*"')
+STRING = re.compile(r'b?"(?:[^"\\]|\\.)*"')
 # a lemma that would have the name of the function that it is about
 LEMMAS = {"box-cited": "box_cited_lem", "conclusions-follow": "conclusions_follow_lem", "meets-are-greatest": "meets_are_greatest_lem"}
 # modules, variables of tests and names of other crates, which nothing confuses with these
