@@ -1,6 +1,6 @@
 // The open boxes of a derivation.
 //
-//   boxes::Boxes   a table of sixteen boxes: new, has_room, innermost, top, open, extend, close
+//   boxes::Boxes   a table of sixteen boxes: new, has_room, top, innermost, open, extend, close
 #![tactic(auto)]
 
 pub mod boxes;

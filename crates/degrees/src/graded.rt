@@ -26,8 +26,6 @@ pub fn evaluate_graded(
     ensures evaluated { Pairable (chain degrees.degrees) (frame_means stages) → Evaluated (product (chain degrees.degrees) (frame_means stages)) (contents store.now) valuation.now.letters values.old values.new result }
     ensures too_large { (Pairable (chain degrees.degrees) (frame_means stages) → ⊥) → (result ≡ Err SpanTooLarge) × (values.new ≡ values.old) }
 {
-    match Product::new(degrees, stages) {
-        Ok(both) => evaluate(store, &both, valuation, values),
-        Err(not_made) => Err(not_made.refusal),
-    }
+    let both = Product::new(degrees, stages)?;
+    evaluate(store, &both, valuation, values)
 }

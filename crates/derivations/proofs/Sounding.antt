@@ -1,21 +1,43 @@
--- The conclusion of a sequent follows from its premises.
-use Rattle.std.proofs.Common.{map, sym, subst}
+-- Every line is sound, and the conclusion of a sequent follows from its premises.
+use Rattle.std.proofs.Common.{ℕ, List, map, sym, subst}
 use native.Mathlib.Decide.{ℕ_discrete}
 use Rattle.grammar.specs.Contents.{formula_at}
-use Rattle.fitch.specs.History.{History}
+use Rattle.grammar.specs.Formula.{Formula}
+use Rattle.fitch.specs.Exact.{Concludes}
+use Rattle.fitch.specs.History.{History, premises}
+use Rattle.fitch.specs.Records.{Reach}
+use Rattle.fitch.specs.declared.mode.Mode.{Mode}
+use Rattle.ledger.specs.Recorded.{Gathers, Derives}
+use Rattle.ledger.specs.declared.line.Line.{Line}
 use Rattle.ledger.specs.Sequents.{SequentOf, premise_places}
 use Rattle.ledger.specs.declared.sequent.Sequent.{Sequent}
 use Rattle.ledger.proofs.Recording.{settled}
-use Rattle.soundness.specs.Soundness.{Entails}
-use Rattle.soundness.proofs.Sound.{conclusions_follow_lem}
+use Rattle.soundness.specs.Soundness.{Entails, Sound}
+use Rattle.soundness.proofs.Sound.{sound, conclusions_follow_lem}
+use Rattle.derivations.specs.Derived.{Derived}
 use Rattle.derivations.specs.Finished.{Finished, formulas_by}
+use Rattle.derivations.specs.declared.open.Open.{Open}
 use Rattle.derivations.specs.declared.sealed.Sealed.{Sealed}
 
+module _ {mode : Mode} {fs : List Formula} {es : List Line} {n : ℕ} {h : History} where
+  pub gathers_sound : Gathers mode fs es n h → Sound mode h
+  gathers_sound x = sound mode h x.written
+
+  module _ {p : ℕ} {ts : List Reach} where
+    pub derives_sound : Derives mode fs es n p ts h → Sound mode h
+    derives_sound x = sound mode h x.written
+
+    pub derives_entails : (A : Formula) → Derives mode fs es n p ts h → Concludes h A → Entails mode (premises h) A
+    derives_entails A x k = conclusions_follow_lem mode h A x.written k
+
+pub derived_sound : (o : Open) (h : History) → Derived o h → Sound o.sheet.mode h
+derived_sound o h x = derives_sound x
+
 -- of a sequent that every history of the derivation has
-pub sequent_entails : (d : Sealed) (s : Sequent) → ((h : History) → Finished d h → SequentOf d.mode (formulas_by d) h s)
+pub sequent_entails : (d : Sealed) (s : Sequent) → ((h : History) → Finished d h → SequentOf d.derivation.sheet.mode (formulas_by d) h s)
     → Entails s.mode (map (formula_at (formulas_by d)) (premise_places s)) (formula_at (formulas_by d) s.conclusion)
 sequent_entails d s shows m l v members =
-    settled (ℕ_discrete _ _) d.recorded (λ r.
+    settled (ℕ_discrete _ _) d.derivation.recorded (λ r.
     let q = shows r.0 r.1 in
     subst (λ mode. Entails mode (map (formula_at (formulas_by d)) (premise_places s)) (formula_at (formulas_by d) s.conclusion)) (sym q.mode_is)
-    (subst (λ As. Entails d.mode As (formula_at (formulas_by d) s.conclusion)) (sym q.premises_are) (conclusions_follow_lem d.mode r.0 _ r.1.written q.concludes)) m l v members)
+    (subst (λ As. Entails d.derivation.sheet.mode As (formula_at (formulas_by d) s.conclusion)) (sym q.premises_are) (conclusions_follow_lem d.derivation.sheet.mode r.0 _ r.1.written q.concludes)) m l v members)

@@ -1,3 +1,4 @@
+pub mod Sheets
 pub mod Gathered
 pub mod Derived
 pub mod Finished

@@ -5,16 +5,9 @@ use Rattle.derivations.specs.declared.open.Open.{Open}
 use Rattle.derivations.specs.declared.sealed.Sealed.{Sealed}
 
 pub record Opens (g : Gathering) (o : Open) : Type 0 where
-  pub store : o.store ≡ g.store
-  pub mode : o.mode ≡ g.mode
-  pub lines : o.lines.now ≡ g.lines.now
-  pub count : o.count ≡ g.count
-  pub premises : o.premises ≡ g.count
+  pub sheet : o.sheet ≡ g.sheet
+  pub premises : o.premises ≡ g.sheet.count
 
-pub record Seals (o : Open) (d : Sealed) : Type 0 where
-  pub store : d.store ≡ o.store
-  pub mode : d.mode ≡ o.mode
-  pub lines : d.lines.now ≡ o.lines.now
-  pub count : d.count ≡ o.count
-  pub premises : d.premises ≡ o.premises
-  pub boxes : d.boxes ≡ o.boxes
+-- every part of the derivation is kept
+abbrev pub Seals : Open → Sealed → Type 0
+Seals o d = d.derivation ≡ o

@@ -10,3 +10,4 @@
 pub mod gathering;
 pub mod open;
 pub mod sealed;
+mod sheet;

@@ -1,33 +1,27 @@
 // A derivation under way.
-ghost use Rattle.std.specs.Prelude.{◌≤◌, length};
+ghost use Rattle.std.specs.Prelude.{◌≤◌};
 ghost use Rattle.fitch.specs.History.{History};
-ghost use Rattle.fitch.specs.Limits.{most_lines, most_premises};
-ghost use Rattle.formulas.specs.Stores.{contents};
+ghost use Rattle.fitch.specs.Limits.{most_premises};
 ghost use Rattle.ledger.specs.Recorded.{Derives};
 ghost use Rattle.boxes.specs.Stack.{stack};
+ghost use Rattle.derivations.specs.Sheets.{formulas_of};
 
+use crate::sheet::Sheet;
 use boxes::boxes::Boxes;
-use fitch::mode::Mode;
-use formulas::store::Store;
-use ledger::line::Line;
 
 mod check;
+pub mod look;
 pub mod nest;
-pub mod page;
 pub mod seal;
 pub mod step;
 
 // The records are those of some history of accepted calls, of which `premises` were premises.
+// That each such history is sound is no ghost field: it stands on the calls, where a caller reads it, with what each leaves and refuses.
 #[derive(Drop)]
 pub struct Open<'s, 'l> {
-    pub(crate) store: &'s Store,
-    pub(crate) lines: &'l mut [Line],
-    pub(crate) count: usize,
+    pub(crate) sheet: Sheet<'s, 'l>,
     pub(crate) premises: usize,
-    pub(crate) mode: Mode,
     pub(crate) boxes: Boxes,
-    ghost small: { count ≤ most_lines },
     ghost few: { premises ≤ most_premises },
-    ghost fits: { count ≤ length lines.now },
-    ghost recorded: { ∥ ((h : History) × Derives mode (contents store.now) lines.now count premises (stack boxes) h) ∥₁ },
+    ghost recorded: { ∥ ((h : History) × Derives sheet.mode (formulas_of sheet) sheet.lines.now sheet.count premises (stack boxes) h) ∥₁ },
 }

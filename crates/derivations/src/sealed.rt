@@ -1,30 +1,11 @@
 // A finished derivation.
-ghost use Rattle.std.specs.Prelude.{◌≤◌, length};
-ghost use Rattle.fitch.specs.History.{History};
-ghost use Rattle.fitch.specs.Limits.{most_lines, most_premises};
-ghost use Rattle.formulas.specs.Stores.{contents};
-ghost use Rattle.ledger.specs.Recorded.{Derives};
-ghost use Rattle.boxes.specs.Stack.{stack};
-
-use boxes::boxes::Boxes;
-use fitch::mode::Mode;
-use formulas::store::Store;
-use ledger::line::Line;
+use crate::open::Open;
 
 pub mod conclude;
-pub mod page;
+pub mod look;
 
-// The records are those of some history of accepted calls, of which `premises` were premises.
+// Nothing can be written to it any more.
 #[derive(Drop)]
 pub struct Sealed<'s, 'l> {
-    pub(crate) store: &'s Store,
-    pub(crate) lines: &'l mut [Line],
-    pub(crate) count: usize,
-    pub(crate) premises: usize,
-    pub(crate) mode: Mode,
-    pub(crate) boxes: Boxes,
-    ghost small: { count ≤ most_lines },
-    ghost few: { premises ≤ most_premises },
-    ghost fits: { count ≤ length lines.now },
-    ghost recorded: { ∥ ((h : History) × Derives mode (contents store.now) lines.now count premises (stack boxes) h) ∥₁ },
+    pub(crate) derivation: Open<'s, 'l>,
 }

@@ -1,7 +1,7 @@
 -- The records agree with the lines of the history: a box's first line says whether it is open, and where it ends.
 use Rattle.std.proofs.Common.{◌≡◌, ℕ, zero, suc, ◌-◌, ◌<◌, ◌≤◌, ◌⊎◌, List, [], ◌∷◌, ◌++◌, length, get_or, set, Some, sym, refl, ap, ◌∙◌, subst, inl, inr, arith}
 use Rattle.std.specs.List.{AllByRecursion as All, slice_get}
-use Rattle.std.proofs.lemmas.Option.{slice_get-get_or}
+use Rattle.std.proofs.lemmas.Option.{slice_get-get_or, slice_get_within}
 use Rattle.std.proofs.ByRecursion.{All-push, All-weaker}
 use Rattle.std.proofs.lemmas.List.{length_push, length-set}
 use Rattle.grammar.specs.Formula.{Formula}
@@ -12,11 +12,6 @@ use Rattle.fitch.specs.declared.rule.Reason.TheVariants.{Premise, Step}
 use Rattle.fitch.proofs.Nesting.{nth_push, count_lines, Named, boxes_named, named_innermost, Descend, boxes_descend, not_above}
 
 -- lists
-
-pub nth_within : {X : Type 0} (xs : List X) (k : ℕ) (y : X) → slice_get xs k ≡ Some y → k < length xs
-nth_within [] k y e = let z : ◌≡◌ {A = ℕ} 0 1 = cc in absurd (omega arith)
-nth_within (x ∷ xs) zero y e = omega arith
-nth_within (x ∷ xs) (suc k) y e = let p = nth_within xs k y e in omega arith
 
 nth_left : {X : Type 0} (xs ys : List X) (k : ℕ) (y : X) → slice_get xs k ≡ Some y → slice_get (xs ++ ys) k ≡ Some y
 nth_left [] ys k y e = let z : ◌≡◌ {A = ℕ} 0 1 = cc in absurd (omega arith)
@@ -69,7 +64,7 @@ last_new ls b x e = record {
   line = x;
   stands = nth_end ls x;
   inside = e;
-  later = λ k m s i. (let p = nth_within (ls ++ x ∷ []) k m s in omega (arith, length_push ls x));
+  later = λ k m s i. (let p = slice_get_within (ls ++ x ∷ []) k m s in omega (arith, length_push ls x));
 }
 
 -- the table has the open boxes, each with its last line
@@ -147,10 +142,10 @@ agrees_push bs cs ls rs x y len old lift new k l r p q = go (nth_push ls x l k p
     go : (slice_get ls k ≡ Some l) ⊎ ((k ≡ length ls) × (x ≡ l)) → (slice_get rs k ≡ Some r) ⊎ ((k ≡ length rs) × (y ≡ r)) → Agree cs (ls ++ x ∷ []) k l r
     go (inl a) (inl b) =
         let o = old k l r a b in
-        let lt = nth_within ls k l a in
+        let lt = slice_get_within ls k l a in
         record { formula = o.formula; inside = o.inside; own = λ e. ((o.own e).0, lift k r.end lt (o.own e).1) }
-    go (inl a) (inr b) = let lt = nth_within ls k l a in absurd (omega (arith, b.0))
-    go (inr a) (inl b) = let lt = nth_within rs k r b in absurd (omega (arith, a.0))
+    go (inl a) (inr b) = let lt = slice_get_within ls k l a in absurd (omega (arith, b.0))
+    go (inr a) (inl b) = let lt = slice_get_within rs k r b in absurd (omega (arith, a.0))
     go (inr a) (inr b) =
         let P : ℕ → Line → Kept → Type 0 = λ i m s. Agree cs (ls ++ x ∷ []) i m s in
         subst (λ s. P k l s) b.1 (subst (λ m. P k m y) a.1 (subst (λ i. P i x y) (sym a.0) new))
@@ -203,7 +198,7 @@ agrees_close ls rs (b ∷ bs) (t ∷ ts) n len nm d m old k l r p q =
     go : ((k ≡ t.first - 1) × (r ≡ with_end (get_or rs (t.first - 1) blank) t.end)) ⊎ ((k ≡ t.first - 1 → ⊥) × (slice_get rs k ≡ Some r)) → Agree bs ls k l r
     go (inl s) =
         let was = get_or rs (t.first - 1) blank in
-        let lt = nth_within ls k l p in
+        let lt = slice_get_within ls k l p in
         let here : slice_get rs k ≡ Some was = slice_get-get_or rs k blank (omega arith) ∙ ap (λ i. Some (get_or rs i blank)) s.0 in
         let o = old k l was p here in
         let name : suc k ≡ b.first = omega (arith, s.0, m.0, nm.0.0) in
@@ -288,7 +283,7 @@ matched_within : (n : ℕ) (ls : List Line) (bs : List Box) (t : Reach) (ts : Li
 matched_within n ls [] t ts nm m = absurd m
 matched_within n ls (b ∷ bs) t ts nm m =
     let z = m.1 in
-    let p = nth_within ls z.at z.line z.stands in
+    let p = slice_get_within ls z.at z.line z.stands in
     (omega (arith, m.0, nm.0.0), omega (arith, m.0, nm.0.1), omega (arith, z.number))
 
 pub table_within : (h : History) (t : Reach) (ts : List Reach) → table h ≡ t ∷ ts → (0 < t.first) × (t.first ≤ count h) × (t.end ≤ count h)

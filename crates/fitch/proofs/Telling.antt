@@ -2,14 +2,14 @@
 use Rattle.std.proofs.Common.{◌≡◌, ℕ, zero, suc, ◌-◌, ◌<◌, ◌≤◌, ◌⊎◌, List, [], ◌∷◌, get_or, Some, sym, refl, ap, ◌∙◌, subst, ap₂, inl, inr, arith}
 use mathlib.Core.List.{Memᴰ}
 use Rattle.std.specs.List.{slice_get}
-use Rattle.std.proofs.lemmas.Option.{slice_get-get_or}
+use Rattle.std.proofs.lemmas.Option.{slice_get-get_or, slice_get_within}
 use Rattle.grammar.specs.Formula.{Formula}
 use Rattle.grammar.specs.Formula.Formula.{falsum}
 use Rattle.fitch.specs.History.{History, Box, Line, count, outer, boxes, lines, Stands, Open, Reads, Shows}
 use Rattle.fitch.specs.Records.{innermost, Names, Kept, blank, records}
 use Rattle.fitch.specs.Exact.{kept_at, StillOpen, Told, NumberedBoxes}
 use Rattle.fitch.proofs.Nesting.{all_nth, reach, reach_outer, unique, first_line, count_lines, Named, lines_named, named_innermost, named_outer}
-use Rattle.fitch.proofs.Keeping.{nth_within, LastOf, Ending, Agree, agrees, HasFirst, Firsts, firsts, firsts_outer, count_records}
+use Rattle.fitch.proofs.Keeping.{LastOf, Ending, Agree, agrees, HasFirst, Firsts, firsts, firsts_outer, count_records}
 
 mem_names : {b : Box} {cs : List Box} → Memᴰ b cs → Names b.first cs
 mem_names (Memᴰ.head e) = inl (ap (λ c. c.first) e)
@@ -27,7 +27,7 @@ line_is h k lt = let d : Line = record { formula = falsum; inside = [] } in (get
 first_kept : (h : History) (b : ℕ) → HasFirst (lines h) b → Ending (boxes h) (lines h) b (kept_at h b).end
 first_kept h b f =
     let k = f.at in
-    let lt = nth_within (lines h) k f.line f.stands in
+    let lt = slice_get_within (lines h) k f.line f.stands in
     let a = agrees h k f.line (kept_at h (suc k)) f.stands (kept_is h k (omega (arith, count_lines h))) in
     subst (λ i. Ending (boxes h) (lines h) i (kept_at h i).end) (sym f.number) (a.own f.inside).1
 
@@ -127,7 +127,7 @@ module _ (h : History) (k : ℕ) (lt : k < count h) where
 
     formula_last : C ≡ z.line.formula
     formula_last =
-        let lt' = nth_within (lines h) z.at z.line z.stands in
+        let lt' = slice_get_within (lines h) z.at z.line z.stands in
         ap (λ n. (kept_at h n).formula) z.number ∙ (agrees h z.at z.line _ z.stands (kept_is h z.at (omega (arith, count_lines h)))).formula
 
     latest : (j : ℕ) (D : Formula) → Stands h j D (box' ∷ outer l.inside) → j ≤ suc z.at
@@ -173,7 +173,7 @@ module _ (h : History) (k : ℕ) (lt : k < count h) where
     where
       go : Ending (boxes h) (lines h) (suc k) r.end → r.end ≤ count h
       go (inl p) = omega (arith, p.1)
-      go (inr p) = let lt' = nth_within (lines h) p.1.at p.1.line p.1.stands in omega (arith, p.1.number, count_lines h)
+      go (inr p) = let lt' = slice_get_within (lines h) p.1.at p.1.line p.1.stands in omega (arith, p.1.number, count_lines h)
 
   own_named : Named (count h) l.inside
   own_named = all_nth (λ m. Named (count h) m.inside) (lines h) k l (lines_named h) stands

@@ -4,7 +4,7 @@
 //   mode::Mode           constructive or classical
 //   rule::Rule           the eleven rules, what each cites, and their names
 //   rule::Reason         why a line stands
-//   refusal::Refusal     why a call on derivations is refused, with its number and place
+//   refusal::Refusal     why a call on derivations is refused
 //   theorems             what holds of every history
 #![tactic(auto)]
 

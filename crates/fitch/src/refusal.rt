@@ -1,6 +1,7 @@
 // Why a call on derivations is refused.
-ghost use Rattle.std.specs.Prelude.{◌≡◌};
 ghost use Rattle.fitch.specs.Refusals.{number_of, place_of};
+
+use grammar::told::Told;
 
 // A citation is counted from 1.
 #[derive(Clone, Copy, PartialEq, Debug)]
@@ -31,11 +32,12 @@ pub enum Refusal {
     NoTopLine,
 }
 
-impl Refusal {
-    // The number by which a refusal is told.
-    pub fn number(self) -> u8
-        ensures { result ≡ number_of self }
-    {
+impl Told for Refusal {
+    ghost number_of = { number_of };
+
+    ghost place_of = { place_of };
+
+    fn number(self) -> u8 {
         match self {
             Refusal::NotStored => 7,
             Refusal::ManyPremises => 8,
@@ -52,10 +54,7 @@ impl Refusal {
         }
     }
 
-    // The place by which a refusal is told, or 0.
-    pub fn place(self) -> usize
-        ensures { result ≡ place_of self }
-    {
+    fn place(self) -> usize {
         match self {
             Refusal::NoSuchLine(citation) => citation,
             Refusal::NotReachable(citation) => citation,

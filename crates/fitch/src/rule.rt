@@ -3,6 +3,8 @@
 pub mod kinds;
 pub mod name;
 
+pub const MOST_CITATIONS: usize = 3;
+
 #[derive(Clone, Copy, PartialEq, Debug)]
 pub enum Rule {
     Reiterate,
@@ -25,10 +27,10 @@ pub enum Kind {
     Box,
 }
 
-// Why a line stands; citations past those that the rule takes are 0.
+// Why a line stands; citations past those that the rule takes are 0. A record takes no heap, so it has room for the most that a rule cites.
 #[derive(Clone, Copy, PartialEq, Debug)]
 pub enum Reason {
     Premise,
     Assumption,
-    Step(Rule, [usize; 3]),
+    Step(Rule, [usize; MOST_CITATIONS]),
 }

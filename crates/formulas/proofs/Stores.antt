@@ -1,5 +1,5 @@
 -- What a store's ghost fields say of its records.
-use Rattle.std.proofs.Common.{◌≡◌, ℕ, ◌<◌, ◌≤◌, min, length, get_or, take, sym, refl, ap, ◌∙◌, subst, inl, inr, ⊎_elim, arith}
+use Rattle.std.proofs.Common.{◌≡◌, ℕ, ◌<◌, ◌≤◌, min, length, get_or, take, sym, ap, ◌∙◌, arith}
 use Rattle.std.proofs.lemmas.List.{get_or_read}
 use Rattle.grammar.specs.Records.{meaning, parts_below, MadeOf}
 use Rattle.grammar.specs.declared.node.Node.{Node}
@@ -29,23 +29,6 @@ made_of s p n h e =
       formula = used_meaning (records s) s.used (within s) (good s) p h ∙ ap (meaning (contents s)) (sym here);
       below = ap (parts_below p) here ∙ used_founded (records s) s.used (within s) (good s) p h;
     }
-
--- the same, where the record is known
-pub read_as : (s : Store) (p : ℕ) {here n : Node} → p < count s → here ≡ get_or (records s) p here → here ≡ n → MadeOf (contents s) p n
-read_as s p {here} h e is = subst (MadeOf (contents s) p) is (made_of s p here (stored_used s p h) e)
-
--- what stays
-
-pub stay_same : (s : Store) → OthersStay s s
-stay_same s = record { long = refl; longer = omega arith; same = λ k _. refl }
-
-pub stay_then : {a b c : Store} → OthersStay a b → OthersStay b c → OthersStay a c
-stay_then {a} {b} {c} p q = record {
-  long = q.long ∙ p.long;
-  longer = omega (arith, p.longer, q.longer);
-  same = λ k.
-      ⊎_elim (λ h. q.same k (inl (omega (arith, p.longer))) ∙ p.same k (inl h)) (λ h. q.same k (inr h) ∙ p.same k (inr (omega (arith, q.longer))));
-}
 
 pub same_capacity : {a b : Store} → OthersStay a b → capacity b ≡ capacity a
 same_capacity p = ap (λ n. min n 4096) p.long

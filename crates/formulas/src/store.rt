@@ -12,10 +12,12 @@ pub mod parts;
 mod place;
 pub mod read;
 pub mod size;
+mod stored;
 pub mod write;
 
 // The first records are in use. They stand for # and the letters first, then for joined formulas, each after its parts and each once;
 // and what is stored can be written and read back.
+// All records stay, beside the number in use: they are the caller's, who gets them back, and no call on a store allocates.
 #[derive(Drop)]
 pub struct Store {
     nodes: Vec<Node>,

@@ -8,11 +8,13 @@ pub mod load;
 pub mod ops;
 mod sets;
 
-// `up[u]` is the set of the worlds at or above world `u`.
+const MOST_WORLDS: usize = 12;
+
+// `up[u]` is the set of the worlds at or above world `u`. The table has room for the most worlds, so that a frame is copied and needs no heap.
 #[derive(Clone, Copy)]
 pub struct Frame {
     worlds: u8,
-    up: [u16; 12],
+    up: [u16; MOST_WORLDS],
     ghost least: { 1 ≤ worlds },
     ghost most: { worlds ≤ most_worlds },
     ghost within: { Within worlds up },

@@ -4,7 +4,7 @@ use Rattle.std.proofs.lemmas.List.{take_more, take_more_set}
 use Rattle.std.proofs.lemmas.Bool.{and_from, le-leb, not-true, not_from_false}
 use Rattle.std.proofs.lemmas.Bool.Decides.{Decides-below_and}
 use Rattle.grammar.specs.Contents.{formula_at, basic, holds, Fitting}
-use Rattle.grammar.specs.Records.{formulas, parts_below}
+use Rattle.grammar.specs.Records.{parts_below}
 use Rattle.grammar.specs.declared.node.Node.{Node}
 use Rattle.grammar.specs.declared.node.Node.TheVariants.{Falsum, Letter}
 use Rattle.grammar.proofs.Entries.{letters_at}
@@ -17,9 +17,6 @@ letter_records c (suc n) = Letter c ∷ letter_records (c + 1) n
 
 abbrev pub basics : List Node
 basics = Falsum ∷ letter_records 97 26
-
-pub basics_mean : formulas basics ≡ basic
-basics_mean = refl
 
 records_at : (c n j : ℕ) → j < n → get_or (letter_records c n) j Falsum ≡ Letter (c + j)
 records_at c zero j h = absurd (omega arith)

@@ -5,7 +5,7 @@ use Rattle.grammar.specs.Symbols.{signs}
 use Rattle.grammar.specs.Texts.{Text, NoFormula}
 use Rattle.grammar.specs.WrittenText.{text}
 use Rattle.grammar.specs.Contents.{formula_at, entered, Fitting, Once}
-use Rattle.grammar.specs.Reading.{Readable, Unreadable, Enters, Refused, Read, OneAnswer}
+use Rattle.grammar.specs.Reading.{Readable, Enters, Read, OneAnswer}
 use Rattle.grammar.specs.Writing.{text_at, ReadsBack}
 use Rattle.grammar.specs.declared.refusal.Refusal.{Refusal}
 use Rattle.grammar.specs.declared.refusal.Refusal.TheVariants.{FewRecords, LongText, NotFormula, DeepFormula, RecordsWanting, ShortBuffer, NotStored}
@@ -118,13 +118,3 @@ pub reads_back : (fs : List Formula) (p : ℕ) → Fitting (formula_at fs p) →
 reads_back fs p fit capacity gs hs a once l same w =
     let f = formula_at fs p in
     read_at (text f) capacity gs hs f (record { short = fit.1; text = is_text f fit.2; shallow = fit.0 }) p once (omega (arith, entered_long gs f)) (entered_keeps gs f p l ∙ same) a w
-
--- a text that no store can read is refused by each
-pub unreadable_refused : (s : List ℕ) (capacity : ℕ) (fs : List Formula) (e : Refusal) → Unreadable s e → Refused s capacity fs e
-unreadable_refused s capacity fs FewRecords w = w
-unreadable_refused s capacity fs LongText w = w
-unreadable_refused s capacity fs (NotFormula i) w = w
-unreadable_refused s capacity fs DeepFormula w = w
-unreadable_refused s capacity fs RecordsWanting w = absurd w
-unreadable_refused s capacity fs ShortBuffer w = w
-unreadable_refused s capacity fs NotStored w = w

@@ -1,16 +1,16 @@
 -- How the text at a place is spelled from those of its parts.
-use Rattle.std.proofs.Common.{◌≡◌, ℕ, ◌+◌, ◌<◌, ◌≤◌, ltb, List, [], ◌∷◌, ◌++◌, length, sym, refl, ap, ◌∙◌, arith, length-append}
+use Rattle.std.proofs.Common.{◌≡◌, ℕ, ◌+◌, ◌<◌, ltb, List, [], ◌∷◌, ◌++◌, length, sym, refl, ap, ◌∙◌, arith, length-append}
 use Rattle.std.proofs.lemmas.Bool.{and_parts, ltb-true}
 use Rattle.grammar.specs.Formula.{Formula}
 use Rattle.grammar.specs.Formula.Formula.{falsum, letter, joined}
 use Rattle.grammar.specs.Texts.{bracketed}
 use Rattle.grammar.specs.WrittenText.{text, join_text}
-use Rattle.grammar.specs.Contents.{formula_at, Base, Once, AllFitting}
+use Rattle.grammar.specs.Contents.{formula_at, Base, Once}
 use Rattle.grammar.specs.Records.{MadeOf}
 use Rattle.grammar.specs.Writing.{text_at}
 use Rattle.grammar.specs.declared.connective.Connective.{Connective}
 use Rattle.grammar.specs.declared.connective.Connective.TheVariants.{And, Or, Implies}
-use Rattle.grammar.specs.declared.node.Node.TheVariants.{Falsum, Letter, Joined}
+use Rattle.grammar.specs.declared.node.Node.TheVariants.{Joined}
 use Rattle.grammar.proofs.Entries.{falsum_at}
 use Rattle.grammar.proofs.Sameness.{one_place}
 
@@ -23,12 +23,6 @@ join_bracketed Implies (joined k f g) s t h = refl
 
 -- the formula at a place is made of formulas below
 module _ (fs : List Formula) (base : Base fs) (once : Once fs) (p : ℕ) where
-  pub spelled_falsum : MadeOf fs p Falsum → text_at fs p ≡ 35 ∷ []
-  spelled_falsum m = ap text m.formula
-
-  pub spelled_letter : (c : ℕ) → MadeOf fs p (Letter c) → text_at fs p ≡ c ∷ []
-  spelled_letter c m = ap text m.formula
-
   module _ (k : Connective) (i j : ℕ) (m : MadeOf fs p (Joined k i j)) where
     pub parts_lower : (i < p) × (j < p)
     parts_lower = let b = and_parts (ltb i p) (ltb j p) m.below in (ltb-true i p b.0, ltb-true j p b.1)
@@ -41,9 +35,6 @@ module _ (fs : List Formula) (base : Base fs) (once : Once fs) (p : ℕ) where
         ap text m.formula
         ∙ join_bracketed k _ (text_at fs i) (text_at fs j)
         (λ ek ef. other ek (one_place fs once j 0 (omega (arith, parts_lower, m.stored)) (omega (arith, base.0)) (ef ∙ sym (falsum_at fs base))))
-
-pub text_short : (fs : List Formula) (p : ℕ) → AllFitting fs → p < length fs → length (text_at fs p) ≤ 1024
-text_short fs p all h = (all p h).1
 
 pub spelled_long : (b : ℕ) (s t : List ℕ) → length (40 ∷ s ++ (b ∷ t ++ (41 ∷ []))) ≡ length s + length t + 3
 spelled_long b s t = omega (arith, length-append s (b ∷ t ++ (41 ∷ [])), length-append t (41 ∷ []))

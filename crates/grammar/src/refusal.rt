@@ -1,6 +1,7 @@
 // Why a call on formulas is refused.
-ghost use Rattle.std.specs.Prelude.{◌≡◌};
 ghost use Rattle.grammar.specs.Refusals.{number_of, place_of};
+
+use crate::told::Told;
 
 #[derive(Clone, Copy, PartialEq, Debug)]
 pub enum Refusal {
@@ -20,11 +21,12 @@ pub enum Refusal {
     NotStored,
 }
 
-impl Refusal {
-    // The number by which a refusal is told.
-    pub fn number(self) -> u8
-        ensures { result ≡ number_of self }
-    {
+impl Told for Refusal {
+    ghost number_of = { number_of };
+
+    ghost place_of = { place_of };
+
+    fn number(self) -> u8 {
         match self {
             Refusal::FewRecords => 1,
             Refusal::LongText => 2,
@@ -36,10 +38,7 @@ impl Refusal {
         }
     }
 
-    // The place by which a refusal is told, or 0.
-    pub fn place(self) -> usize
-        ensures { result ≡ place_of self }
-    {
+    fn place(self) -> usize {
         match self {
             Refusal::NotFormula(at) => at,
             _ => 0,

@@ -10,7 +10,7 @@ use Rattle.grammar.specs.Writing.{put}
 use Rattle.grammar.specs.declared.connective.Connective.{Connective}
 use Rattle.grammar.specs.declared.node.Node.{Node}
 use Rattle.grammar.specs.declared.node.Node.TheVariants.{Falsum, Letter, Joined}
-use Rattle.grammar.proofs.Buffers.{put_none, put_byte, length_put}
+use Rattle.grammar.proofs.Buffers.{put_byte, length_put}
 use Rattle.heyting.specs.Evaluating.{worth, Ready}
 use Rattle.heyting.specs.Meaning.{Meaning, Member, Lawful}
 use Rattle.heyting.specs.Values.{operation, value, ByMembers}
@@ -33,10 +33,7 @@ module _ (m : Meaning) (v : List ℕ) (fs : List Formula) (before : List ℕ) (r
   pub length_filled : (p : ℕ) → p ≤ length fs → length (filled m v fs before p) ≡ length before
   length_filled p h = length_put before 0 (take p values) (omega (arith, length_front p h))
 
-  pub filled_none : before ≡ filled m v fs before 0
-  filled_none = put_none before 0 (omega arith)
-
-  pub filled_more : (p x : ℕ) → p < length fs → x ≡ value m v (formula_at fs p) → set (filled m v fs before p) p x ≡ filled m v fs before (p + 1)
+  filled_more : (p x : ℕ) → p < length fs → x ≡ value m v (formula_at fs p) → set (filled m v fs before p) p x ≡ filled m v fs before (p + 1)
   filled_more p x h e =
       let long = length_front p (omega arith) in
       put_byte before 0 (omega arith) (filled m v fs before p) (take p values) p refl (omega arith) x (omega (arith, length_filled p (omega arith)))
@@ -55,7 +52,7 @@ module _ (m : Meaning) (v : List ℕ) (fs : List Formula) (before : List ℕ) (r
     parts : (k : Connective) (i j : ℕ) → MadeOf fs p (Joined k i j) → (i < p) × (j < p)
     parts k i j made = let b = and_parts (ltb i p) (ltb j p) made.below in (ltb-true i p b.0, ltb-true j p b.1)
 
-    pub worth_is : (n : Node) → MadeOf fs p n → worth m v (filled m v fs before p) n ≡ value m v (formula_at fs p)
+    worth_is : (n : Node) → MadeOf fs p n → worth m v (filled m v fs before p) n ≡ value m v (formula_at fs p)
     worth_is Falsum made = ap (value m v) (sym made.formula)
     worth_is (Letter c) made = ap (value m v) (sym made.formula)
     worth_is (Joined k i j) made =
@@ -63,7 +60,7 @@ module _ (m : Meaning) (v : List ℕ) (fs : List Formula) (before : List ℕ) (r
         let h : p ≤ length fs = omega (arith, made.stored) in
         ap₂ (operation m k) (filled_at p i h b.0) (filled_at p j h b.1) ∙ ap (value m v) (sym made.formula)
 
-    pub ready : Lawful m → ByMembers m v → AllFitting fs → (n : Node) → MadeOf fs p n → Ready m (filled m v fs before p) n
+    ready : Lawful m → ByMembers m v → AllFitting fs → (n : Node) → MadeOf fs p n → Ready m (filled m v fs before p) n
     ready l members all Falsum made = tt
     ready l members all (Letter c) made =
         let fit = subst (λ f. lettered f ≡ true) made.formula (all p made.stored).2 in
@@ -78,3 +75,12 @@ module _ (m : Meaning) (v : List ℕ) (fs : List Formula) (before : List ℕ) (r
           subst (Member m) (sym (filled_at p i h b.0)) (value_in m l v members (formula_at fs i)),
           subst (Member m) (sym (filled_at p j h b.1)) (value_in m l v members (formula_at fs j)),
         )
+
+    -- the same of a buffer that is filled so far
+
+    pub ready_in : Lawful m → ByMembers m v → AllFitting fs → (buffer : List ℕ) → buffer ≡ filled m v fs before p → (n : Node) → MadeOf fs p n → Ready m buffer n
+    ready_in l members all buffer e n made = subst (λ b. Ready m b n) (sym e) (ready l members all n made)
+
+    pub fills : (buffer : List ℕ) → buffer ≡ filled m v fs before p → (n : Node) → MadeOf fs p n → (x : ℕ) → x ≡ worth m v buffer n → set buffer p x ≡ filled m v fs before (p + 1)
+    fills buffer e n made x is =
+        ap (λ b. set b p x) e ∙ filled_more p x made.stored (is ∙ ap (λ b. worth m v b n) e ∙ worth_is n made)

@@ -6,7 +6,7 @@ use lib.Arith.{lt-one}
 use lib.Pow.{pow-lt}
 use lib.Bits.{bit_and, bit_or, and_shr, or_shr, and_mod, or_mod, and_mask, or_lt, and_le_l, shifted_even}
 use Rattle.std.proofs.lemmas.Nat.{shr-shr, shl-shr, pow-add}
-use Rattle.std.proofs.lemmas.Bool.{eq-eqb, ne_eqb, eqb-true, cases_order, cases_Bool, both_ways, and_from}
+use Rattle.std.proofs.lemmas.Bool.{eq-eqb, ne_eqb, eqb-true, cases_order, cases_Bool, both_ways}
 use Rattle.std.proofs.lemmas.Bool.Decides.{Decides-below_and, same_from_decides}
 use Rattle.heyting.specs.Tables.{each, collect, implies}
 use Rattle.heyting.specs.Worlds.{holds}
@@ -170,9 +170,6 @@ implies_from true b f = f refl
 implies_from false b f = refl
 
 -- ---- steps of a loop over the worlds
-
-pub each_more : (p : ℕ → Bool) (u : ℕ) → each p u ≡ true → p u ≡ true → each p (u + 1) ≡ true
-each_more p u e h = rw add-one (and_from (p u) (each p u) h e)
 
 pub each_broken : (p : ℕ → Bool) (n u : ℕ) → u < n → p u ≡ false → each p n ≡ false
 each_broken p n u h e = ⊎_elim (λ k. absurd (both_ways (p u) e (each_at p n u k h))) (λ k. k) (cases_Bool (each p n))

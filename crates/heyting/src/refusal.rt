@@ -1,6 +1,7 @@
 // Why a call on algebras is refused.
-ghost use Rattle.std.specs.Prelude.{◌≡◌};
 ghost use Rattle.heyting.specs.Refusals.{number_of, place_of};
+
+use grammar::told::Told;
 
 #[derive(Clone, Copy, PartialEq, Debug)]
 pub enum Refusal {
@@ -18,11 +19,12 @@ pub enum Refusal {
     LetterNotMember(usize),
 }
 
-impl Refusal {
-    // The number by which a refusal is told.
-    pub fn number(self) -> u8
-        ensures { result ≡ number_of self }
-    {
+impl Told for Refusal {
+    ghost number_of = { number_of };
+
+    ghost place_of = { place_of };
+
+    fn number(self) -> u8 {
         match self {
             Refusal::WorldsOutOfRange => 19,
             Refusal::NoSuchWorld(_) => 20,
@@ -33,10 +35,7 @@ impl Refusal {
         }
     }
 
-    // The place by which a refusal is told, or 0.
-    pub fn place(self) -> usize
-        ensures { result ≡ place_of self }
-    {
+    fn place(self) -> usize {
         match self {
             Refusal::NoSuchWorld(pair) => pair,
             Refusal::LetterNotMember(letter) => letter,

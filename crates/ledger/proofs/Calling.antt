@@ -1,6 +1,7 @@
 -- What each call adds to the history that the records tell.
-use Rattle.std.proofs.Common.{◌≡◌, ℕ, zero, suc, ◌+◌, ◌-◌, ◌<◌, ◌≤◌, List, [], ◌∷◌, ◌++◌, map, length, get_or, take, set, sym, refl, ap, ◌∙◌, subst, ap₂, arith}
-use Rattle.std.proofs.lemmas.List.{take_more_set, map_push, map-set, get_or-take, get_or-map, length-take-le}
+use Rattle.std.proofs.Common.{◌≡◌, ℕ, suc, ◌+◌, ◌-◌, ◌<◌, ◌≤◌, List, [], ◌∷◌, ◌++◌, map, length, get_or, take, set, sym, refl, ap, ◌∙◌, subst, ap₂, arith}
+use Rattle.std.proofs.Math.Seq.{take-set-lt, map-set_same}
+use Rattle.std.proofs.lemmas.List.{take_more_set, map_push, map-set, get_or-take, get_or-map, length-set, length-take-le}
 use Rattle.grammar.specs.Contents.{formula_at}
 use Rattle.grammar.specs.Formula.{Formula}
 use Rattle.fitch.specs.History.{History, premise, begin, assume, step, close, count, outer, boxes, premises, Permits}
@@ -10,7 +11,7 @@ use Rattle.fitch.specs.declared.rule.Reason.TheVariants.{Premise, Assumption, St
 use Rattle.fitch.specs.declared.rule.Rule.{Rule}
 use Rattle.fitch.proofs.Keeping.{table_top, table_depth, table_within}
 use Rattle.fitch.proofs.Premises.{all_premises}
-use Rattle.ledger.specs.Recorded.{no_line, kept, Recorded, Gathers, Derives}
+use Rattle.ledger.specs.Recorded.{no_line, kept, ended_at, Recorded, Gathers, Derives}
 use Rattle.ledger.specs.Stack.{fresh_box}
 use Rattle.ledger.specs.declared.line.Line.{Line}
 use Rattle.ledger.proofs.Recording.{set_more}
@@ -47,40 +48,28 @@ module _ {mode : Mode} {fs : List Formula} {es : List Line} {n p : ℕ} {ts : Li
     boxes = b ∙ ap₂ moved number g.boxes;
   }
 
-  pub add_box : {us : List Reach} (f number' around : ℕ) → f < length fs → length ts < 16 → n < 1024 → n < length es
-      → number' ≡ n + 1 → around ≡ top_first ts → us ≡ fresh_box number' ∷ ts
-      → Derives mode fs (set es n (record { formula = f; reason = Assumption; inside = number'; around = around; end = 0 })) (n + 1) p us (assume (formula_at fs f) ∷ h)
-  add_box f number' around held shallow small room num a b =
-      let m : number' ≡ suc (count h) = num ∙ number in
-      record {
-        written = ((g.begun, omega (arith, depth_is), omega (arith, g.recorded.counted)), g.written);
-        begun = refl;
-        recorded = more_recorded g.recorded (record { formula = f; reason = Assumption; inside = number'; around = around; end = 0 }) room held refl
-            (ap₂ (λ x y. records h ++ record { formula = formula_at fs f; reason = Assumption; inside = x; around = y; end = 0 } ∷ []) m (a ∙ top_is));
-        premised = g.premised;
-        boxes = b ∙ ap₂ (λ k us. fresh_box k ∷ us) m g.boxes;
-      }
+  pub add_box : {us : List Reach} (f around : ℕ) → f < length fs → length ts < 16 → n < 1024 → n < length es
+      → around ≡ top_first ts → us ≡ fresh_box (n + 1) ∷ ts
+      → Derives mode fs (set es n (record { formula = f; reason = Assumption; inside = n + 1; around = around; end = 0 })) (n + 1) p us (assume (formula_at fs f) ∷ h)
+  add_box f around held shallow small room a b = record {
+    written = ((g.begun, omega (arith, depth_is), omega (arith, g.recorded.counted)), g.written);
+    begun = refl;
+    recorded = more_recorded g.recorded (record { formula = f; reason = Assumption; inside = n + 1; around = around; end = 0 }) room held refl
+        (ap₂ (λ x y. records h ++ record { formula = formula_at fs f; reason = Assumption; inside = x; around = y; end = 0 } ∷ []) number (a ∙ top_is));
+    premised = g.premised;
+    boxes = b ∙ ap₂ (λ k us. fresh_box k ∷ us) number g.boxes;
+  }
 
   -- the innermost open box
   pub top_within : (t : Reach) (us : List Reach) → ts ≡ t ∷ us → (0 < t.first) × (t.first ≤ n)
   top_within t us e = let r = table_within h t us (sym g.boxes ∙ e) in (r.0, omega (arith, r.1, g.recorded.counted))
 
-  take_set_in : (m i : ℕ) (xs : List Line) (x : Line) → take m (set xs i x) ≡ set (take m xs) i x
-  take_set_in zero zero [] x = refl
-  take_set_in zero (suc i) [] x = refl
-  take_set_in zero zero (y ∷ xs) x = refl
-  take_set_in zero (suc i) (y ∷ xs) x = refl
-  take_set_in (suc m) zero [] x = refl
-  take_set_in (suc m) (suc i) [] x = refl
-  take_set_in (suc m) zero (y ∷ xs) x = refl
-  take_set_in (suc m) (suc i) (y ∷ xs) x = ap (λ ys. y ∷ ys) (take_set_in m i xs x)
-
   pub end_box : {us : List Reach} (t : Reach) → n ≤ length es → ts ≡ t ∷ outer ts → us ≡ outer ts
-      → Derives mode fs (set es (t.first - 1) (record { formula = (get_or es (t.first - 1) no_line).formula; reason = (get_or es (t.first - 1) no_line).reason; inside = (get_or es (t.first - 1) no_line).inside; around = (get_or es (t.first - 1) no_line).around; end = t.end })) n p us (close ∷ h)
+      → Derives mode fs (set es (t.first - 1) (ended_at (get_or es (t.first - 1) no_line) t.end)) n p us (close ∷ h)
   end_box t fits e b =
       let k = t.first - 1 in
       let x = get_or es k no_line in
-      let y : Line = record { formula = x.formula; reason = x.reason; inside = x.inside; around = x.around; end = t.end } in
+      let y = ended_at x t.end in
       let w = top_within t (outer ts) e in
       let was : kept fs x ≡ get_or (records h) k blank =
       ap (kept fs) (sym (get_or-take n es k no_line (omega arith)))
@@ -93,30 +82,21 @@ module _ {mode : Mode} {fs : List Formula} {es : List Line} {n p : ℕ} {ts : Li
         recorded = record {
           counted = g.recorded.counted;
           lines =
-              ap (map (kept fs)) (take_set_in n k es y)
+              ap (map (kept fs)) (take-set-lt n es k y (omega (arith, w.0, w.1)))
               ∙ map-set (kept fs) (take n es) k y
               ∙ ap₂ (λ ks q. set ks k (with_end q t.end)) g.recorded.lines was
               ∙ ap (λ us. ended us (records h)) (sym tables);
-          stored = λ j lt. (let q = set_any es k y j refl in subst (λ f. f < length fs) (sym q) (g.recorded.stored j lt));
+          stored = λ j lt.
+              let at = get_or-map (λ e. e.formula) es j no_line 0 (omega arith) in
+              let after = get_or-map (λ e. e.formula) (set es k y) j no_line 0 (omega (arith, length-set es k y)) in
+              subst (λ f. f < length fs) (sym at ∙ ap (λ xs. get_or xs j 0) (sym (map-set_same (λ e. e.formula) es k y no_line refl)) ∙ after) (g.recorded.stored j lt);
         };
         premised = g.premised;
         boxes = b ∙ ap outer g.boxes;
       }
-    where
-      -- a line keeps its formula
-      set_any : (xs : List Line) (i : ℕ) (v : Line) (j : ℕ) → v.formula ≡ (get_or xs i no_line).formula → (get_or (set xs i v) j no_line).formula ≡ (get_or xs j no_line).formula
-      set_any [] zero v j e = refl
-      set_any [] (suc i) v j e = refl
-      set_any (x ∷ xs) zero v zero e = e
-      set_any (x ∷ xs) zero v (suc j) e = refl
-      set_any (x ∷ xs) (suc i) v zero e = refl
-      set_any (x ∷ xs) (suc i) v (suc j) e = set_any xs i v j e
 
 -- premises
 module _ {mode : Mode} {fs : List Formula} where
-  pub none_yet : (es : List Line) → Gathers mode fs es 0 []
-  none_yet es = record { written = tt; gathers = refl; recorded = record { counted = refl; lines = refl; stored = λ k lt. absurd (omega arith) } }
-
   module _ {es : List Line} {n : ℕ} {h : History} (g : Gathers mode fs es n h) where
     pub premises_are : length (premises h) ≡ n
     premises_are = (all_premises h g.gathers).0 ∙ sym g.recorded.counted

@@ -1,8 +1,7 @@
 -- A table of boxes as a stack.
-use Rattle.std.proofs.Common.{◌≡◌, ℕ, zero, suc, ◌+◌, ◌-◌, ◌<◌, ◌≤◌, ◌≢◌, List, [], ◌∷◌, length, get_or, set, sym, refl, ap, ◌∙◌, ap₂, add-one, arith}
+use Rattle.std.proofs.Common.{◌≡◌, ℕ, zero, suc, ◌+◌, ◌-◌, ◌<◌, ◌≤◌, ◌≢◌, List, ◌∷◌, length, get_or, set, sym, refl, ap, ◌∙◌, ap₂, add-one, arith}
 use Rattle.std.proofs.lemmas.List.{get_or-set_same, get_or-set_other}
-use Rattle.fitch.specs.History.{outer}
-use Rattle.fitch.specs.Records.{moved, top_first}
+use Rattle.fitch.specs.Records.{moved}
 use Rattle.ledger.specs.Stack.{reach, no_box, stacked}
 use Rattle.ledger.specs.declared.open_box.OpenBox.{OpenBox}
 
@@ -24,21 +23,9 @@ pub stacked_pop : (bs : List OpenBox) (d : ℕ) → 0 < d → stacked bs d ≡ r
 stacked_pop bs zero p = absurd (omega arith)
 stacked_pop bs (suc d) p = let e : d ≡ suc d - 1 = omega arith in ap (λ k. reach (get_or bs k no_box) ∷ stacked bs k) e
 
-pub stacked_top : (bs : List OpenBox) (d : ℕ) → 0 < d → (get_or bs (d - 1) no_box).first ≡ top_first (stacked bs d)
-stacked_top bs d p = sym (ap top_first (stacked_pop bs d p))
-
 pub stacked_move : (bs : List OpenBox) (d n : ℕ) → 0 < d → d ≤ length bs → stacked (set bs (d - 1) (record { first = (get_or bs (d - 1) no_box).first; end = n })) d ≡ moved n (stacked bs d)
 stacked_move bs d n p le =
     let x : OpenBox = record { first = (get_or bs (d - 1) no_box).first; end = n } in
     stacked_pop (set bs (d - 1) x) d p
     ∙ ap₂ (λ b rs. reach b ∷ rs) (get_or-set_same bs (d - 1) x no_box (omega arith)) (stacked_set bs (d - 1) (d - 1) x (omega arith))
     ∙ sym (ap (moved n) (stacked_pop bs d p))
-
-pub stacked_none : (bs : List OpenBox) (d : ℕ) → d ≡ 0 → stacked bs d ≡ []
-stacked_none bs d e = ap (stacked bs) e
-
-pub stacked_outer : (bs : List OpenBox) (d : ℕ) → 0 < d → stacked bs (d - 1) ≡ outer (stacked bs d)
-stacked_outer bs d p = sym (ap outer (stacked_pop bs d p))
-
-pub stacked_head : (bs : List OpenBox) (d : ℕ) → 0 < d → stacked bs d ≡ reach (get_or bs (d - 1) no_box) ∷ outer (stacked bs d)
-stacked_head bs d p = stacked_pop bs d p ∙ ap (λ ts. reach (get_or bs (d - 1) no_box) ∷ ts) (stacked_outer bs d p)

@@ -15,6 +15,10 @@ no_line = record { formula = 0; reason = Premise; inside = 0; around = 0; end = 
 abbrev pub kept : List Formula → Line → Kept
 kept fs e = record { formula = formula_at fs e.formula; reason = e.reason; inside = e.inside; around = e.around; end = e.end }
 
+-- a record with the end of its box
+abbrev pub ended_at : Line → ℕ → Line
+ended_at e n = record { formula = e.formula; reason = e.reason; inside = e.inside; around = e.around; end = n }
+
 -- the first n records are those of h
 pub record Recorded (fs : List Formula) (es : List Line) (n : ℕ) (h : History) : Type 0 where
   pub counted : n ≡ count h

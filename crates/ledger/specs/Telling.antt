@@ -1,5 +1,5 @@
 -- What is told of a line, and of the last line at the top level.
-use Rattle.std.specs.Prelude.{◌≡◌, ℕ, ◌-◌, ◌<◌, ◌≤◌, ◌⊎◌, List, map, length, get_or, take, Some, Result, MatchResult, ◌≢◌, slice_index, slice_index_or}
+use Rattle.std.specs.Prelude.{◌≡◌, ℕ, zero, suc, ◌-◌, ◌<◌, ◌≤◌, List, length, Some, None, Option, Result, MatchOption, MatchResult, ◌≢◌, slice_index_or}
 use Rattle.std.specs.List.{slice_get}
 use Rattle.grammar.specs.Contents.{formula_at}
 use Rattle.grammar.specs.Formula.{Formula}
@@ -7,10 +7,8 @@ use Rattle.fitch.specs.Calls.{line_checks}
 use Rattle.fitch.specs.Checks.{Accepted, Refused}
 use Rattle.fitch.specs.History.{History, line_at}
 use Rattle.fitch.specs.History.{Line as HistoryLine}
-use Rattle.fitch.specs.Limits.{most_premises}
 use Rattle.fitch.specs.Records.{innermost, reasons}
 use Rattle.fitch.specs.declared.refusal.Refusal.{Refusal}
-use Rattle.fitch.specs.declared.refusal.Refusal.TheVariants.{NoSuchLine}
 use Rattle.ledger.specs.Recorded.{no_line}
 use Rattle.ledger.specs.declared.line.Line.{Line}
 use Rattle.ledger.specs.declared.line.LineInfo.{LineInfo}
@@ -28,23 +26,22 @@ pub record Tells (fs : List Formula) (h : History) (i : ℕ) (told : LineInfo) :
 abbrev pub info : Line → LineInfo
 info e = record { formula = e.formula; reason = e.reason; innermost = e.inside }
 
--- a record that is looked up by its number, counted from 1, among the first n
-abbrev pub LookedUp : List Line → ℕ → ℕ → Result LineInfo Refusal → Type 0
-LookedUp es n i r =
-    MatchResult r (λ told. (0 < i) × (i ≤ n) × (told ≡ info (slice_index_or es (i - 1) no_line))) (λ e. (e ≡ NoSuchLine 0) × ((i ≡ 0) ⊎ (n < i)))
+-- the record of line i, counted from 1, if there is one
+abbrev pub record_of : List Line → ℕ → Option Line
+record_of es zero = None
+record_of es (suc k) = slice_get es k
 
 -- what asking for line i answers
 abbrev pub LineTold : List Formula → History → ℕ → Result LineInfo Refusal → Type 0
 LineTold fs h i r = MatchResult r (λ told. Accepted (line_checks h i) × Tells fs h i told) (Refused (line_checks h i))
 
--- the places of the first n lines, and 0 behind them
-pub record FirstPlaces (es : List Line) (n : ℕ) (places : List ℕ) : Type 0 where
-  pub long : length places ≡ most_premises
-  pub first : take n places ≡ map (λ e. e.formula) (take n es)
-  pub spare : (k : ℕ) → n ≤ k → slice_index places k ≡ 0
+-- the found-th line, counted from 1, is the last that no box contains
+pub record IsLastTop (es : List Line) (found : ℕ) : Type 0 where
+  pub some : 0 < found
+  pub within : found ≤ length es
+  pub top : (slice_index_or es (found - 1) no_line).inside ≡ 0
+  pub later : (k : ℕ) → found ≤ k → k < length es → (slice_index_or es k no_line).inside ≢ 0
 
--- of n lines, the found-th, counted from 1, is the last that no box contains; 0 where there is none
-pub record LastTop (es : List Line) (n found : ℕ) : Type 0 where
-  pub within : found ≤ n
-  pub top : 0 < found → (get_or es (found - 1) no_line).inside ≡ 0
-  pub later : (k : ℕ) → found ≤ k → k < n → (get_or es k no_line).inside ≢ 0
+-- the last line that no box contains, if there is one
+abbrev pub LastTop : List Line → Option ℕ → Type 0
+LastTop es r = MatchOption r ((k : ℕ) → k < length es → (slice_index_or es k no_line).inside ≢ 0) (IsLastTop es)

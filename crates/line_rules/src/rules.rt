@@ -1,105 +1,69 @@
 // The rules that cite lines alone: whether all places are stored, and the rule gives the formula.
+// The store and the formula stay two parameters: the store is asked of what is cited as well, and a place may hold nothing.
 ghost use Rattle.std.specs.Prelude.{[], ◌∷◌, Decides};
 ghost use Rattle.formulas.specs.Stores.{contents};
 ghost use Rattle.shapes.specs.Giving.{Gives};
+ghost use Rattle.shapes.specs.Sides.{taking, widening};
 
 use fitch::rule::Rule;
 use formulas::store::Store;
+use formulas::store::make::FALSUM;
 use grammar::connective::Connective;
 use shapes::cited::Cited;
 use shapes::parts::{is_joined, parts};
-
-// The place of # in every store.
-const FALSUM: usize = 0;
+use shapes::side::Side;
 
 // `R`: a line again.
 pub fn reiterates(store: &Store, formula: usize, a: Cited) -> bool
     ensures { Decides result (Gives (contents store.now) formula Rule.Reiterate (a ∷ [])) }
 {
-    match a {
-        Cited::Line(line) => formula < store.count() && line == formula,
-        Cited::Box(_, _) => false,
-    }
+    let Cited::Line(line) = a else {
+        return false;
+    };
+    formula < store.count() && line == formula
 }
 
 // `&I`: both conjuncts.
 pub fn joins(store: &Store, formula: usize, a: Cited, b: Cited) -> bool
     ensures { Decides result (Gives (contents store.now) formula Rule.AndIntro (a ∷ b ∷ [])) }
 {
-    match (a, b) {
-        (Cited::Line(i), Cited::Line(j)) => is_joined(store, formula, Connective::And, i, j),
-        _ => false,
-    }
+    matches!((a, b), (Cited::Line(i), Cited::Line(j)) if is_joined(store, formula, Connective::And, i, j))
 }
 
-// `&1`: the first conjunct.
-pub fn takes_left(store: &Store, formula: usize, a: Cited) -> bool
-    ensures { Decides result (Gives (contents store.now) formula Rule.AndLeft (a ∷ [])) }
+// `&1` and `&2`: the conjunct on a side.
+pub fn takes(store: &Store, formula: usize, side: Side, a: Cited) -> bool
+    ensures { Decides result (Gives (contents store.now) formula (taking side) (a ∷ [])) }
 {
     let Cited::Line(line) = a else {
         return false;
     };
-    match parts(store, line, Connective::And) {
-        Some((first, _)) => first == formula,
-        None => false,
-    }
+    parts(store, line, Connective::And).is_some_and(|conjuncts| side.part(conjuncts) == formula)
 }
 
-// `&2`: the second conjunct.
-pub fn takes_right(store: &Store, formula: usize, a: Cited) -> bool
-    ensures { Decides result (Gives (contents store.now) formula Rule.AndRight (a ∷ [])) }
+// `|1` and `|2`: from the disjunct on a side.
+pub fn widens(store: &Store, formula: usize, side: Side, a: Cited) -> bool
+    ensures { Decides result (Gives (contents store.now) formula (widening side) (a ∷ [])) }
 {
     let Cited::Line(line) = a else {
         return false;
     };
-    match parts(store, line, Connective::And) {
-        Some((_, second)) => second == formula,
-        None => false,
-    }
-}
-
-// `|1`: from the first disjunct.
-pub fn widens_left(store: &Store, formula: usize, a: Cited) -> bool
-    ensures { Decides result (Gives (contents store.now) formula Rule.OrLeft (a ∷ [])) }
-{
-    let Cited::Line(line) = a else {
-        return false;
-    };
-    match parts(store, formula, Connective::Or) {
-        Some((first, _)) => first == line,
-        None => false,
-    }
-}
-
-// `|2`: from the second disjunct.
-pub fn widens_right(store: &Store, formula: usize, a: Cited) -> bool
-    ensures { Decides result (Gives (contents store.now) formula Rule.OrRight (a ∷ [])) }
-{
-    let Cited::Line(line) = a else {
-        return false;
-    };
-    match parts(store, formula, Connective::Or) {
-        Some((_, second)) => second == line,
-        None => false,
-    }
+    parts(store, formula, Connective::Or).is_some_and(|disjuncts| side.part(disjuncts) == line)
 }
 
 // `>E`: an implication and its first part.
 pub fn detaches(store: &Store, formula: usize, a: Cited, b: Cited) -> bool
     ensures { Decides result (Gives (contents store.now) formula Rule.ImpElim (a ∷ b ∷ [])) }
 {
-    match (a, b) {
-        (Cited::Line(i), Cited::Line(j)) => is_joined(store, i, Connective::Implies, j, formula),
-        _ => false,
-    }
+    matches!((a, b), (Cited::Line(i), Cited::Line(j)) if is_joined(store, i, Connective::Implies, j, formula))
 }
 
 // `#E`: anything from falsum.
+// Only the wanted place differs from `reiterates`: one function for both would take that place as well, and be no shorter.
 pub fn explodes(store: &Store, formula: usize, a: Cited) -> bool
     ensures { Decides result (Gives (contents store.now) formula Rule.ExFalso (a ∷ [])) }
 {
-    match a {
-        Cited::Line(line) => formula < store.count() && line == FALSUM,
-        Cited::Box(_, _) => false,
-    }
+    let Cited::Line(line) = a else {
+        return false;
+    };
+    formula < store.count() && line == FALSUM
 }

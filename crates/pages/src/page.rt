@@ -12,13 +12,11 @@ mod cite;
 pub mod look;
 pub mod resolve;
 
-// The first records are those of some history.
+// The records are those of the lines of some history. What is told of them is said of every history that they have.
 #[derive(Clone, Copy)]
 pub struct Page<'p> {
     pub store: &'p Store,
     pub lines: &'p [Line],
-    pub count: usize,
-    ghost small: { count ≤ most_lines },
-    ghost fits: { count ≤ length lines.now },
-    ghost recorded: { ∥ ((h : History) × Recorded (contents store.now) lines.now count h) ∥₁ },
+    ghost small: { length lines.now ≤ most_lines },
+    ghost recorded: { ∥ ((h : History) × Recorded (contents store.now) lines.now (length lines.now) h) ∥₁ },
 }

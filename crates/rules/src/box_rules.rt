@@ -1,16 +1,15 @@
 // The rules that cite boxes: whether all places are stored, and the rule gives the formula.
+// The store and the formula stay two parameters: the store is asked of what is cited as well, and a place may hold nothing.
 ghost use Rattle.std.specs.Prelude.{[], ◌∷◌, Decides};
 ghost use Rattle.formulas.specs.Stores.{contents};
 ghost use Rattle.shapes.specs.Giving.{Gives};
 
 use fitch::rule::Rule;
 use formulas::store::Store;
+use formulas::store::make::FALSUM;
 use grammar::connective::Connective;
 use shapes::cited::Cited;
 use shapes::parts::is_joined;
-
-// The place of # in every store.
-const FALSUM: usize = 0;
 
 // `|E`: by both cases.
 pub fn splits(store: &Store, formula: usize, a: Cited, b: Cited, c: Cited) -> bool
@@ -18,10 +17,9 @@ pub fn splits(store: &Store, formula: usize, a: Cited, b: Cited, c: Cited) -> bo
 {
     match (a, b, c) {
         (Cited::Line(line), Cited::Box(first, end), Cited::Box(second, other)) => {
-            if formula >= store.count() || end != formula || other != formula {
-                return false;
-            }
-            is_joined(store, line, Connective::Or, first, second)
+            formula < store.count()
+                && (end, other) == (formula, formula)
+                && is_joined(store, line, Connective::Or, first, second)
         }
         _ => false,
     }
@@ -31,20 +29,18 @@ pub fn splits(store: &Store, formula: usize, a: Cited, b: Cited, c: Cited) -> bo
 pub fn discharges(store: &Store, formula: usize, b: Cited) -> bool
     ensures { Decides result (Gives (contents store.now) formula Rule.ImpIntro (b ∷ [])) }
 {
-    match b {
-        Cited::Box(first, end) => is_joined(store, formula, Connective::Implies, first, end),
-        Cited::Line(_) => false,
-    }
+    let Cited::Box(first, end) = b else {
+        return false;
+    };
+    is_joined(store, formula, Connective::Implies, first, end)
 }
 
 // `RA`: from the negation follows falsum.
 pub fn refutes(store: &Store, formula: usize, b: Cited) -> bool
     ensures { Decides result (Gives (contents store.now) formula Rule.Reductio (b ∷ [])) }
 {
-    match b {
-        Cited::Box(first, end) => {
-            end == FALSUM && is_joined(store, first, Connective::Implies, formula, FALSUM)
-        }
-        Cited::Line(_) => false,
-    }
+    let Cited::Box(first, end) = b else {
+        return false;
+    };
+    end == FALSUM && is_joined(store, first, Connective::Implies, formula, FALSUM)
 }

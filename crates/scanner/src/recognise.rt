@@ -2,7 +2,7 @@
 ghost use Rattle.std.specs.Result.{MatchResult};
 ghost use Rattle.grammar.specs.Reading.{Recognised, Unreadable};
 
-use crate::scan::scan;
+use crate::scan::{Scanned, scan};
 use grammar::refusal::Refusal;
 
 const MOST_BYTES: usize = 1024;
@@ -10,7 +10,7 @@ const MOST_BYTES: usize = 1024;
 const MOST_NESTING: usize = 32;
 
 // How deep a text nests, and how many signs ~ & | > it has.
-#[derive(Clone, Copy, PartialEq, Debug)]
+#[derive(Clone, Copy, PartialEq, Eq, Debug)]
 pub struct Measured {
     pub nesting: usize,
     pub signs: usize,
@@ -23,18 +23,12 @@ pub fn recognise(text: &[u8]) -> Result<Measured, Refusal>
     if text.len() > MOST_BYTES {
         return Err(Refusal::LongText);
     }
-    let scanned = match scan(text, 0) {
-        Ok(scanned) => scanned,
-        Err(at) => return Err(Refusal::NotFormula(at)),
-    };
-    if scanned.end < text.len() {
-        return Err(Refusal::NotFormula(scanned.end));
+    let Scanned { end, measured } = scan(text, 0)?;
+    if end < text.len() {
+        return Err(Refusal::NotFormula(end));
     }
-    if scanned.nesting > MOST_NESTING {
+    if measured.nesting > MOST_NESTING {
         return Err(Refusal::DeepFormula);
     }
-    Ok(Measured {
-        nesting: scanned.nesting,
-        signs: scanned.signs,
-    })
+    Ok(measured)
 }

@@ -1,5 +1,7 @@
 -- When a rule gives a formula, place by place.
-use Rattle.std.proofs.Common.{◌≡◌, ℕ, ◌<◌, Bool, false, eqb, List, [], ◌∷◌, length, Decides, sym, ap, ◌∙◌, arith, eq-eqb, eqb-true}
+use Rattle.std.proofs.Common.{◌≡◌, ℕ, ◌<◌, Bool, false, true, ◌&&◌, eqb, Option, Some, None, MatchOption, List, [], ◌∷◌, length, Decides, sym, subst, ap, ◌∙◌, arith, eq-eqb, eqb-true}
+use Rattle.std.specs.Option.{option_eq}
+use Rattle.std.proofs.lemmas.Bool.{and_parts, and_from}
 use borrow.Author.Tests.{clash}
 use Rattle.grammar.specs.Contents.{formula_at, Base, Once}
 use Rattle.grammar.specs.Formula.{Formula}
@@ -8,9 +10,12 @@ use Rattle.grammar.specs.declared.connective.Connective.{Connective}
 use Rattle.grammar.specs.declared.connective.Connective.TheVariants.{And, Or, Implies}
 use Rattle.grammar.proofs.Sameness.{same_true, one_place}
 use Rattle.fitch.specs.Rules.{line}
-use Rattle.fitch.specs.declared.rule.Rule.TheVariants.{Reiterate, AndLeft, AndRight, OrLeft, OrRight, OrElim, ImpElim, ExFalso, Reductio}
+use Rattle.fitch.specs.declared.rule.Rule.TheVariants.{Reiterate, OrElim, ExFalso, Reductio}
 use Rattle.shapes.specs.Giving.{Gives}
-use Rattle.shapes.specs.Joined.{Joined}
+use Rattle.shapes.specs.Joined.{Joined, NotJoined}
+use Rattle.shapes.specs.Sides.{part_on, taking, widening}
+use Rattle.shapes.specs.declared.side.Side.{Side}
+use Rattle.shapes.specs.declared.side.Side.TheVariants.{Left, Right}
 use Rattle.shapes.specs.declared.cited.Cited.TheVariants.{Line, Box}
 
 pub never : {P : Type 0} → (P → ⊥) → Decides false P
@@ -18,6 +23,11 @@ never n = ((λ e. absurd (clash e)), (λ p. absurd (n p)))
 
 pub decided : {r : Bool} {P Q : Type 0} → (P → Q) → (Q → P) → Decides r P → Decides r Q
 decided f g d = ((λ e. f (d.0 e)), (λ q. d.1 (g q)))
+
+-- an answer that is false where nothing was found, and else told by what was found
+pub found : {X G N : Type 0} {J Q : X → Type 0} {b : Bool} (r : Option X) → MatchOption r N J → MatchOption r (b ≡ false) Q → (N → G → ⊥) → ((x : X) → J x → Q x → Decides b G) → Decides b G
+found {G = G} None n e missing told = subst (λ v. Decides v G) (sym e) (never (missing n))
+found (Some x) j q missing told = told x j q
 
 module _ (fs : List Formula) (once : Once fs) where
   abbrev at : ℕ → Formula
@@ -37,14 +47,20 @@ module _ (fs : List Formula) (once : Once fs) where
         let v : at b ≡ at y = cc in
         (one_place fs once a x i.first_in j.first_in u, one_place fs once b y i.second_in j.second_in v)
 
-    pub second_decides : Joined fs p k a b → a ≡ x → Decides (eqb b y) (Joined fs p k x y)
-    second_decides i e = (
-      (λ t. let d = eqb-true b y t in record { whole_in = i.whole_in; first_in = omega (arith, i.first_in); second_in = omega (arith, i.second_in); is = let u = ap at e in let v = ap at d in let w = i.is in cc }),
-      (λ j. eq-eqb b y (same_parts i j).1),
+    parts_decide : Joined fs p k a b → Decides (eqb a x && eqb b y) (Joined fs p k x y)
+    parts_decide i = (
+      (λ t.
+          let both = and_parts (eqb a x) (eqb b y) t in
+          let e = eqb-true a x both.0 in
+          let d = eqb-true b y both.1 in
+          record { whole_in = i.whole_in; first_in = omega (arith, i.first_in); second_in = omega (arith, i.second_in); is = let u = ap at e in let v = ap at d in let w = i.is in cc }),
+      (λ j. let same = same_parts i j in and_from _ _ (eq-eqb a x same.0) (eq-eqb b y same.1)),
     )
 
-    pub first_differs : Joined fs p k a b → (a ≡ x → ⊥) → Decides (eqb a x) (Joined fs p k x y)
-    first_differs i n = ((λ t. absurd (n (eqb-true a x t))), (λ j. absurd (n (same_parts i j).0)))
+  -- the parts that were found, if any, are those that are asked for
+  pub found_decide : (p x y : ℕ) (k : Connective) (r : Option (ℕ × ℕ)) → MatchOption r (NotJoined fs p k) (λ q. Joined fs p k q.0 q.1) → Decides (option_eq (λ i j. eqb i.0 j.0 && eqb i.1 j.1) r (Some (x, y))) (Joined fs p k x y)
+  found_decide p x y k None none = never (λ j. none j.whole_in _ _ j.is)
+  found_decide p x y k (Some (a, b)) i = parts_decide i
 
   pub gives_reiterate : (f a : ℕ) → f < length fs → Decides (eqb a f) (Gives fs f Reiterate (Line a ∷ []))
   gives_reiterate f a held = (
@@ -52,33 +68,39 @@ module _ (fs : List Formula) (once : Once fs) where
     (λ g. let e = g.fits in let q : at a ≡ at f = cc in (same_place a f g.cited.0 held).1 q),
   )
 
-  pub gives_and_left : (f a x y : ℕ) → Joined fs a And x y → Decides (eqb x f) (Gives fs f AndLeft (Line a ∷ []))
-  gives_and_left f a x y j =
+  -- a part on a side, and the rules that differ in the side alone
+
+  pub gives_taking : (side : Side) (f a : ℕ) (p : ℕ × ℕ) → Joined fs a And p.0 p.1 → Decides (eqb (part_on side p) f) (Gives fs f (taking side) (Line a ∷ []))
+  gives_taking Left f a (x, y) j =
       let w = j.is in (
         (λ e. let q = eqb-true x f e in let l = j.first_in in record { stored = omega arith; cited = (j.whole_in, tt); fits = (at y, let u = ap at q in cc) }),
         (λ g. let e = g.fits.1 in let q : at x ≡ at f = cc in (same_place x f j.first_in g.stored).1 q),
       )
-
-  pub gives_and_right : (f a x y : ℕ) → Joined fs a And x y → Decides (eqb y f) (Gives fs f AndRight (Line a ∷ []))
-  gives_and_right f a x y j =
+  gives_taking Right f a (x, y) j =
       let w = j.is in (
         (λ e. let q = eqb-true y f e in let l = j.second_in in record { stored = omega arith; cited = (j.whole_in, tt); fits = (at x, let u = ap at q in cc) }),
         (λ g. let e = g.fits.1 in let q : at y ≡ at f = cc in (same_place y f j.second_in g.stored).1 q),
       )
 
-  pub gives_or_left : (f a x y : ℕ) → Joined fs f Or x y → Decides (eqb x a) (Gives fs f OrLeft (Line a ∷ []))
-  gives_or_left f a x y j =
+  pub none_taking : (side : Side) (f a : ℕ) → NotJoined fs a And → Gives fs f (taking side) (Line a ∷ []) → ⊥
+  none_taking Left f a none g = let e = g.fits.1 in none g.cited.0 (at f) g.fits.0 cc
+  none_taking Right f a none g = let e = g.fits.1 in none g.cited.0 g.fits.0 (at f) cc
+
+  pub gives_widening : (side : Side) (f a : ℕ) (p : ℕ × ℕ) → Joined fs f Or p.0 p.1 → Decides (eqb (part_on side p) a) (Gives fs f (widening side) (Line a ∷ []))
+  gives_widening Left f a (x, y) j =
       let w = j.is in (
         (λ e. let q = eqb-true x a e in let l = j.first_in in record { stored = j.whole_in; cited = (omega arith, tt); fits = (at x, at y, w, ap (λ i. line (at i) ∷ []) (sym q)) }),
         (λ g. let e = g.fits.2 in let d = g.fits.3 in let q : at x ≡ at a = cc in (same_place x a j.first_in g.cited.0).1 q),
       )
-
-  pub gives_or_right : (f a x y : ℕ) → Joined fs f Or x y → Decides (eqb y a) (Gives fs f OrRight (Line a ∷ []))
-  gives_or_right f a x y j =
+  gives_widening Right f a (x, y) j =
       let w = j.is in (
         (λ e. let q = eqb-true y a e in let l = j.second_in in record { stored = j.whole_in; cited = (omega arith, tt); fits = (at x, at y, w, ap (λ i. line (at i) ∷ []) (sym q)) }),
         (λ g. let e = g.fits.2 in let d = g.fits.3 in let q : at y ≡ at a = cc in (same_place y a j.second_in g.cited.0).1 q),
       )
+
+  pub none_widening : (side : Side) (f a : ℕ) → NotJoined fs f Or → Gives fs f (widening side) (Line a ∷ []) → ⊥
+  none_widening Left f a none g = none g.stored _ _ g.fits.2
+  none_widening Right f a none g = none g.stored _ _ g.fits.2
 
   pub gives_or_elim : {r : Bool} (f a x d y e : ℕ) → f < length fs → d ≡ f → e ≡ f → Decides r (Joined fs a Or x y) → Decides r (Gives fs f OrElim (Line a ∷ Box x d ∷ Box y e ∷ []))
   gives_or_elim f a x d y e held p q =
@@ -87,17 +109,13 @@ module _ (fs : List Formula) (once : Once fs) where
       decided (λ j. let w = j.is in record { stored = held; cited = (j.whole_in, ((j.first_in, omega arith), ((j.second_in, omega arith), tt))); fits = (at x, at y, cc) })
       (λ g. let z = g.fits.2 in record { whole_in = g.cited.0; first_in = g.cited.1.0.0; second_in = g.cited.1.1.0.0; is = cc })
 
-  -- a box that ends with another formula
-  pub first_box_ends : (f a x d y e : ℕ) → Gives fs f OrElim (Line a ∷ Box x d ∷ Box y e ∷ []) → d ≡ f
-  first_box_ends f a x d y e g = let z = g.fits.2 in let q : at d ≡ at f = cc in one_place fs once d f g.cited.1.0.1 g.stored q
-
-  pub second_box_ends : (f a x d y e : ℕ) → Gives fs f OrElim (Line a ∷ Box x d ∷ Box y e ∷ []) → e ≡ f
-  second_box_ends f a x d y e g = let z = g.fits.2 in let q : at e ≡ at f = cc in one_place fs once e f g.cited.1.1.0.1 g.stored q
-
-  pub gives_imp_elim : {r : Bool} (f a b : ℕ) → Decides r (Joined fs a Implies b f) → Decides r (Gives fs f ImpElim (Line a ∷ Line b ∷ []))
-  gives_imp_elim f a b =
-      decided (λ j. let w = j.is in record { stored = j.second_in; cited = (j.whole_in, (j.first_in, tt)); fits = (at b, cc) })
-      (λ g. let z = g.fits.1 in record { whole_in = g.cited.0; first_in = g.cited.1.0; second_in = g.stored; is = cc })
+  -- both boxes end with the formula
+  pub boxes_end : (f a x d y e : ℕ) → Gives fs f OrElim (Line a ∷ Box x d ∷ Box y e ∷ []) → (eqb d f && eqb e f) ≡ true
+  boxes_end f a x d y e g =
+      let z = g.fits.2 in
+      let u : at d ≡ at f = cc in
+      let v : at e ≡ at f = cc in
+      and_from _ _ ((same_place d f g.cited.1.0.1 g.stored).1 u) ((same_place e f g.cited.1.1.0.1 g.stored).1 v)
 
   module _ (base : Base fs) where
     none : 0 < length fs

@@ -1,5 +1,5 @@
-// How a stored formula is joined.
-ghost use Rattle.std.specs.Prelude.{◌≡◌, Decides, MatchOption};
+// How a stored formula is joined. The store and a place stay apart: what asks has places, as records keep them.
+ghost use Rattle.std.specs.Prelude.{Decides, MatchOption};
 ghost use Rattle.formulas.specs.Stores.{contents};
 ghost use Rattle.shapes.specs.Joined.{Joined, NotJoined};
 
@@ -29,8 +29,5 @@ pub fn is_joined(
 ) -> bool
     ensures { Decides result (Joined (contents store.now) place connective first second) }
 {
-    match parts(store, place, connective) {
-        Some((a, b)) => a == first && b == second,
-        None => false,
-    }
+    parts(store, place, connective) == Some((first, second))
 }

@@ -1,10 +1,9 @@
 // Release stages are loaded as a frame, clauses are evaluated there, and bad stages are refused.
+use crate::words::Refused;
 use algebras::algebra::Algebra;
 use formulas::store::Store;
-use formulas::store::make::NotMade;
 use frames::frame::Frame;
 use grammar::node::Node;
-use heyting::refusal::Refusal;
 use layers::product::Product;
 use layers::product::make::NotMade as NotPaired;
 use std::io;
@@ -39,16 +38,18 @@ pub(crate) fn tell(rt: &HostRuntime) -> anyhow::Result<()> {
 fn tell_values(rt: &HostRuntime, frame: &Frame) -> anyhow::Result<()> {
     rt.println("\nClauses are evaluated, with p = 14 (from stage 1 on) and q = 8 (stage 3):")?;
     match Store::new(vec![in rt.alloc(); Node::Falsum; 64]?) {
-        Ok(store) => tell_clauses(rt, frame, store),
-        Err(NotMade { .. }) => Ok(()),
+        Ok(store) => tell_clauses(rt, frame, store)?,
+        Err(not_made) => println!(rt; "{}", Refused(not_made.refusal))?,
     }
+    Ok(())
 }
 
 fn tell_clauses(rt: &HostRuntime, frame: &Frame, mut store: Store) -> anyhow::Result<()> {
     let valuation = valuation_of(frame);
     for clause in ["(p|~p)", "~~p", "(p>q)", "(q>p)"] {
-        if let Ok(place) = store.read(clause.as_bytes()) {
-            tell_value(rt, frame, &store, &valuation, clause, place)?;
+        match store.read(clause.as_bytes()) {
+            Ok(place) => tell_value(rt, frame, &store, &valuation, clause, place)?,
+            Err(refusal) => println!(rt; "{}", Refused(refusal))?,
         }
     }
     Ok(())
@@ -72,11 +73,11 @@ fn tell_value(
     let mut values = [0; 64];
     print!(rt; "  value '{clause}': ")?;
     match evaluate(store, frame, valuation, &mut values) {
-        Ok(()) => {
-            let value = values.get(place).copied().unwrap_or(0);
-            println!(rt; "{value}")?;
-        }
-        Err(refusal) => tell_refusal(rt, refusal)?,
+        Ok(()) => match values.get(place) {
+            Some(value) => println!(rt; "{value}")?,
+            None => println!(rt; "no value")?,
+        },
+        Err(refusal) => println!(rt; "{}", Refused(refusal))?,
     }
     Ok(())
 }
@@ -104,14 +105,13 @@ fn tell_pair(
     made: Result<Product<Frame, Frame>, NotPaired<Frame, Frame>>,
 ) -> io::Result<()> {
     match made {
-        Ok(pair) => {
-            let arrow = pair.arrow(2, 1);
-            println!(rt; "  product: the arrow from 2 to 1 is {arrow}")
-        }
+        Ok(pair) => { println!(rt; "  product: the arrow from 2 to 1 is {}", pair.arrow(2, 1)) }
         Err(not_made) => {
-            let back = not_made.first.span();
-            print!(rt; "  product: the first has span {back}, ")?;
-            tell_refusal(rt, not_made.refusal)
+            println!(rt;
+                "  product: the first has span {}, {}",
+                not_made.first.span(),
+                Refused(not_made.refusal)
+            )
         }
     }
 }
@@ -122,11 +122,10 @@ fn tell_load(
     worlds: u32,
     pairs: &[(u32, u32)],
 ) -> io::Result<()> {
-    let count = pairs.len();
-    print!(rt; "  load worlds {worlds}, pairs {count}: ")?;
+    print!(rt; "  load worlds {worlds}, pairs {}: ", pairs.len())?;
     match frame.load(worlds, pairs) {
         Ok(()) => rt.println("loaded"),
-        Err(refusal) => tell_refusal(rt, refusal),
+        Err(refusal) => println!(rt; "{}", Refused(refusal)),
     }
 }
 
@@ -138,10 +137,4 @@ fn tell_members<A: Algebra>(rt: &HostRuntime, algebra: &A) -> io::Result<()> {
         }
     }
     rt.println("")
-}
-
-fn tell_refusal(rt: &HostRuntime, refusal: Refusal) -> io::Result<()> {
-    let number = refusal.number();
-    let place = refusal.place();
-    println!(rt; "refused {number} at {place}")
 }

@@ -1,9 +1,8 @@
 // An editor's clauses are read, stored once, taken apart and written back, and slips are refused.
+use crate::words::{Refused, Words};
 use formulas::store::Store;
 use formulas::store::make::NotMade;
-use grammar::connective::Connective;
 use grammar::node::Node;
-use grammar::refusal::Refusal;
 use std::io;
 
 const LONGEST_TEXT: usize = 1024;
@@ -24,8 +23,7 @@ fn tell_making(rt: &HostRuntime, records: usize) -> anyhow::Result<()> {
 
 fn tell_not_made(rt: &HostRuntime, not_made: NotMade) -> anyhow::Result<()> {
     let NotMade { refusal, records } = not_made;
-    rt.print("  ")?;
-    tell_refusal(rt, refusal)?;
+    println!(rt; "  {}", Refused(refusal))?;
     tell_back(rt, &records)?;
     Ok(())
 }
@@ -57,8 +55,8 @@ fn tell_parts(rt: &HostRuntime, store: &Store) -> io::Result<()> {
     rt.println("\nThe first clause is taken apart:")?;
     for place in [28, 27, 16, 0] {
         match store.node(place) {
-            Ok(node) => tell_node(rt, place, node)?,
-            Err(refusal) => tell_refusal(rt, refusal)?,
+            Ok(node) => println!(rt; "  node  {place}: {}", Words(node))?,
+            Err(refusal) => println!(rt; "{}", Refused(refusal))?,
         }
     }
     Ok(())
@@ -90,22 +88,23 @@ fn tell_slips(rt: &HostRuntime, store: &mut Store) -> anyhow::Result<()> {
     Ok(())
 }
 
-fn tell_back(rt: &HostRuntime, records: &Vec<Node>) -> io::Result<()> {
-    let back = records.len();
-    println!(rt; "  {back} records are back")
+fn tell_back(rt: &HostRuntime, records: &[Node]) -> io::Result<()> {
+    println!(rt; "  {} records are back", records.len())
 }
 
 fn tell_count(rt: &HostRuntime, store: &Store) -> io::Result<()> {
-    let count = store.count();
-    let capacity = store.capacity();
-    println!(rt; "  {count} of {capacity} records in use")
+    println!(rt;
+        "  {} of {} records in use",
+        store.count(),
+        store.capacity()
+    )
 }
 
 fn tell_read(rt: &HostRuntime, store: &mut Store, text: &str) -> io::Result<()> {
     print!(rt; "  read  '{text}': ")?;
     match store.read(text.as_bytes()) {
         Ok(place) => println!(rt; "place {place}"),
-        Err(refusal) => tell_refusal(rt, refusal),
+        Err(refusal) => println!(rt; "{}", Refused(refusal)),
     }
 }
 
@@ -115,42 +114,13 @@ fn tell_write(
     place: usize,
     buffer: &mut [u8],
 ) -> anyhow::Result<()> {
-    let room = buffer.len();
-    print!(rt; "  write {place} into {room} bytes: ")?;
+    print!(rt; "  write {place} into {} bytes: ", buffer.len())?;
     match store.write(place, buffer) {
         Ok(length) => {
-            let text = std::str::from_utf8(&buffer[0..length])?;
+            let text = std::str::from_utf8(&buffer[..length])?;
             println!(rt; "{length} bytes, '{text}'")?;
         }
-        Err(refusal) => tell_refusal(rt, refusal)?,
+        Err(refusal) => println!(rt; "{}", Refused(refusal))?,
     }
     Ok(())
-}
-
-fn tell_node(rt: &HostRuntime, place: usize, node: Node) -> io::Result<()> {
-    match node {
-        Node::Falsum => println!(rt; "  node  {place}: falsum"),
-        Node::Letter(byte) => {
-            let letter = byte as char;
-            println!(rt; "  node  {place}: letter {letter}")
-        }
-        Node::Joined(connective, first, second) => {
-            let name = name_of(connective);
-            println!(rt; "  node  {place}: {first} {name} {second}")
-        }
-    }
-}
-
-fn name_of(connective: Connective) -> &'static str {
-    match connective {
-        Connective::And => "and",
-        Connective::Or => "or",
-        Connective::Implies => "implies",
-    }
-}
-
-fn tell_refusal(rt: &HostRuntime, refusal: Refusal) -> io::Result<()> {
-    let number = refusal.number();
-    let place = refusal.place();
-    println!(rt; "refused {number} at {place}")
 }

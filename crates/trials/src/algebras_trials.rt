@@ -1,5 +1,5 @@
 // Frames of up to three worlds against tables computed by the definition, and the limits of frames, products and evaluating.
-ghost use Rattle.std.specs.Prelude.{◌<◌, ◌≤◌};
+ghost use Rattle.std.specs.Prelude.{◌≡◌, ◌≤◌};
 
 use algebras::algebra::Algebra;
 use degrees::chain::Chain;
@@ -14,29 +14,42 @@ use std::test::Fail;
 use weighing::evaluate::evaluate;
 use weighing::valuation::Valuation;
 
-// A relation on three worlds: the bit of worth 2^(3u + v) says that u is related to v.
+// A relation on the first of three worlds: the bit of worth 2^(3u + v) says that u is related to v.
 #[derive(Clone, Copy)]
-struct Relation(u32);
+struct Relation {
+    worlds: u32,
+    related: u32,
+    ghost few: { worlds ≤ 3 },
+}
+
+// The set of one pair, or for a pair past three worlds of none.
+fn set_of(u: u32, v: u32) -> u32 {
+    if u < 3 && v < 3 { 1 << (3 * u + v) } else { 0 }
+}
 
 impl Relation {
-    fn has(self, u: u32, v: u32) -> bool
-        requires { (u < 3) × (v < 3) }
-    {
-        self.0 >> (3 * u + v) & 1 == 1
+    fn has(self, u: u32, v: u32) -> bool {
+        self.related & set_of(u, v) != 0
     }
 
     fn with(self, u: u32, v: u32) -> Relation
-        requires { (u < 3) × (v < 3) }
+        ensures { result.worlds ≡ self.worlds }
     {
-        Relation(self.0 | 1 << (3 * u + v))
+        Relation {
+            worlds: self.worlds,
+            related: self.related | set_of(u, v),
+        }
     }
 
     // The reflexive and transitive closure.
     fn closure(self) -> Relation {
-        let mut order = self.with(0, 0).with(1, 1).with(2, 2);
-        for middle in 0..3 {
-            for u in 0..3 {
-                for v in 0..3 {
+        let mut order = self;
+        for u in 0..self.worlds {
+            order = order.with(u, u);
+        }
+        for middle in 0..self.worlds {
+            for u in 0..self.worlds {
+                for v in 0..self.worlds {
                     if order.has(u, middle) && order.has(middle, v) {
                         order = order.with(u, v);
                     }
@@ -46,13 +59,10 @@ impl Relation {
         order
     }
 
-    // The pairs of the first worlds.
-    fn pairs(self, heap: Global, worlds: u32) -> Result<Vec<(u32, u32)>, AllocError>
-        requires { worlds ≤ 3 }
-    {
+    fn pairs(self, heap: Global) -> Result<Vec<(u32, u32)>, AllocError> {
         let mut pairs = Vec::new(heap);
-        for u in 0..worlds {
-            for v in 0..worlds {
+        for u in 0..self.worlds {
+            for v in 0..self.worlds {
                 if self.has(u, v) {
                     pairs.push((u, v))?;
                 }
@@ -62,37 +72,18 @@ impl Relation {
     }
 
     // Whether `a` has with each of the worlds all above it.
-    fn is_member(self, worlds: u32, a: u32) -> bool
-        requires { worlds ≤ 3 }
-    {
-        for u in 0..worlds {
-            for v in 0..worlds {
-                if self.has(u, v) && in_set(a, u) && !in_set(a, v) {
-                    return false;
-                }
-            }
-        }
-        a < 1 << worlds
+    fn is_member(self, a: u32) -> bool {
+        a < 1 << self.worlds
+            && (0..self.worlds).all(|u| {
+                (0..self.worlds).all(|v| !self.has(u, v) || !in_set(a, u) || in_set(a, v))
+            })
     }
 
-    // Whether every world of `a` at or above `u` is in `b`.
-    fn implies_at(self, worlds: u32, a: u32, b: u32, u: u32) -> bool
-        requires { (worlds ≤ 3) × (u < 3) }
-    {
-        for v in 0..worlds {
-            if self.has(u, v) && in_set(a, v) && !in_set(b, v) {
-                return false;
-            }
-        }
-        true
-    }
-
-    fn arrow(self, worlds: u32, a: u32, b: u32) -> u32
-        requires { worlds ≤ 3 }
-    {
+    // The worlds `u` such that every world of `a` at or above `u` is in `b`.
+    fn arrow(self, a: u32, b: u32) -> u32 {
         let mut set = 0;
-        for u in 0..worlds {
-            if self.implies_at(worlds, a, b, u) {
+        for u in 0..self.worlds {
+            if (0..self.worlds).all(|v| !self.has(u, v) || !in_set(a, v) || in_set(b, v)) {
                 set |= 1 << u;
             }
         }
@@ -100,29 +91,23 @@ impl Relation {
     }
 }
 
-fn in_set(a: u32, u: u32) -> bool
-    requires { u < 3 }
-{
-    a >> u & 1 == 1
+fn in_set(a: u32, u: u32) -> bool {
+    u < 3 && a >> u & 1 == 1
 }
 
-fn check_frame(rt: &impl Abort, frame: &Frame, order: Relation, worlds: u32)
-    requires { worlds ≤ 3 }
-{
-    assert_eq!(rt; frame.span(), 1 << worlds);
+fn check_frame(rt: &impl Abort, frame: &Frame, order: Relation) {
+    let span = 1 << order.worlds;
+    assert_eq!(rt; frame.span(), span);
     assert_eq!(rt; frame.bottom(), 0);
-    assert_eq!(rt; frame.top(), (1 << worlds) - 1);
+    assert_eq!(rt; frame.top(), span - 1);
     for a in 0..9 {
-        let is_member = order.is_member(worlds, a);
+        let is_member = order.is_member(a);
         assert_eq!(rt; frame.contains(a), is_member);
         for b in 0..9 {
-            let both = is_member && order.is_member(worlds, b);
+            let both = is_member && order.is_member(b);
             assert_eq!(rt; frame.meet(a, b), if both { a & b } else { 0 });
             assert_eq!(rt; frame.join(a, b), if both { a | b } else { 0 });
-            assert_eq!(rt;
-                frame.arrow(a, b),
-                if both { order.arrow(worlds, a, b) } else { 0 }
-            );
+            assert_eq!(rt; frame.arrow(a, b), if both { order.arrow(a, b) } else { 0 });
         }
     }
 }
@@ -132,17 +117,12 @@ fn frames_of_three_worlds_are_as_defined(rt: HostRuntime) -> Result<(), Fail> {
     let mut frame = Frame::new();
     for worlds in 1..4 {
         for code in 0..512 {
-            let related = Relation(code);
-            frame.load(worlds, &related.pairs(rt.alloc(), worlds)?)?;
-            let mut kept = Relation(0);
-            for u in 0..worlds {
-                for v in 0..worlds {
-                    if related.has(u, v) {
-                        kept = kept.with(u, v);
-                    }
-                }
-            }
-            check_frame(&rt, &frame, kept.closure(), worlds);
+            let related = Relation {
+                worlds,
+                related: code,
+            };
+            frame.load(worlds, &related.pairs(rt.alloc())?)?;
+            check_frame(&rt, &frame, related.closure());
         }
     }
     Ok(())
@@ -181,51 +161,33 @@ fn products_stand_over_frames_products_chains_and_references(rt: HostRuntime) ->
     assert_eq!(rt; twelve.load(12, &[]), Ok(()));
     assert_eq!(rt; four.load(4, &[]), Ok(()));
     assert_eq!(rt; five.load(5, &[]), Ok(()));
-    match Product::new(&twelve, &five) {
-        Ok(_) => return Err(Fail::new("made over 65,536")),
-        Err(not_made) => {
-            assert_eq!(rt; not_made.refusal, Refusal::SpanTooLarge);
-            assert_eq!(rt; not_made.first.span(), 4096);
-            assert_eq!(rt; not_made.second.span(), 32);
-        }
-    }
-    match Product::new(&twelve, &four) {
-        Ok(widest) => {
-            assert_eq!(rt; widest.span(), 65536);
-            assert_eq!(rt; widest.top(), 65535);
-            assert_eq!(rt; widest.split(65535), (4095, 15));
-            assert_eq!(rt; widest.split(4294967295), (268435455, 15));
-            assert!(rt; !widest.contains(65536));
-            assert_eq!(rt; widest.meet(65536, 3), 0);
-        }
-        Err(_) => return Err(Fail::new("not made")),
-    }
-    let grades = match Chain::new(3) {
-        Ok(grades) => grades,
-        Err(_) => return Err(Fail::new("no chain")),
+    let Err(not_made) = Product::new(&twelve, &five) else {
+        return Err(Fail::new("made over 65,536"));
     };
-    match Product::new(grades, Frame::new()) {
-        Ok(inner) => match Product::new(&inner, grades) {
-            Ok(outer) => {
-                assert_eq!(rt; outer.span(), 18);
-                assert_eq!(rt; outer.arrow(16, 5), 5);
-                Ok(())
-            }
-            Err(_) => Err(Fail::new("not made")),
-        },
-        Err(_) => Err(Fail::new("not made")),
-    }
+    assert_eq!(rt; not_made.refusal, Refusal::SpanTooLarge);
+    assert_eq!(rt; not_made.first.span(), 4096);
+    assert_eq!(rt; not_made.second.span(), 32);
+    let widest = Product::new(&twelve, &four).map_err(Refusal::from)?;
+    assert_eq!(rt; widest.span(), 65536);
+    assert_eq!(rt; widest.top(), 65535);
+    assert_eq!(rt; widest.split(65535), (4095, 15));
+    assert_eq!(rt; widest.split(4294967295), (268435455, 15));
+    assert!(rt; !widest.contains(65536));
+    assert_eq!(rt; widest.meet(65536, 3), 0);
+    let grades = Chain::new(3)?;
+    let inner = Product::new(grades, Frame::new()).map_err(Refusal::from)?;
+    let outer = Product::new(&inner, grades).map_err(Refusal::from)?;
+    assert_eq!(rt; outer.span(), 18);
+    assert_eq!(rt; outer.arrow(16, 5), 5);
+    Ok(())
 }
 
 #[test]
 fn evaluating_fills_and_refuses(rt: HostRuntime) -> Result<(), Fail> {
-    let mut store = match Store::new(vec![in rt.alloc(); Node::Falsum; 40]?) {
-        Ok(store) => store,
-        Err(_) => return Err(Fail::new("no store")),
-    };
-    if store.read(b"(p|~p)").is_err() {
-        return Err(Fail::new("not read"));
-    }
+    let mut store = Store::new(vec![in rt.alloc(); Node::Falsum; 40]?).map_err(
+        grammar::refusal::Refusal::from,
+    )?;
+    store.read(b"(p|~p)")?;
     let mut frame = Frame::new();
     assert_eq!(rt; frame.load(2, &[(0, 1)]), Ok(()));
     let mut valuation = Valuation { letters: [0; 26] };

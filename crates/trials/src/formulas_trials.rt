@@ -11,10 +11,7 @@ use std::test::Fail;
 const MARK: Node = Node::Letter(b'!');
 
 fn fresh(heap: Global, records: usize) -> Result<Store, Fail> {
-    match Store::new(vec![in heap; MARK; records]?) {
-        Ok(store) => Ok(store),
-        Err(_) => Err(Fail::new("no store")),
-    }
+    Ok(Store::new(vec![in heap; MARK; records]?).map_err(Refusal::from)?)
 }
 
 fn check_reads(rt: &impl Abort, store: &mut Store, table: &[(&[u8], Result<usize, Refusal>)]) {
@@ -140,14 +137,12 @@ fn buffers_just_long_enough_and_one_short(rt: HostRuntime) -> Result<(), Fail> {
 #[test]
 fn records_are_written_no_further_than_they_are_used(rt: HostRuntime) -> Result<(), Fail> {
     let heap = rt.alloc();
-    match Store::new(vec![in heap; MARK; 26]?) {
-        Ok(_) => return Err(Fail::new("made over 26 records")),
-        Err(not_made) => {
-            assert_eq!(rt; not_made.refusal, Refusal::FewRecords);
-            assert_eq!(rt; not_made.records.len(), 26);
-            assert!(rt; !not_made.records.contains(&Node::Falsum));
-        }
-    }
+    let Err(not_made) = Store::new(vec![in heap; MARK; 26]?) else {
+        return Err(Fail::new("made over 26 records"));
+    };
+    assert_eq!(rt; not_made.refusal, Refusal::FewRecords);
+    assert_eq!(rt; not_made.records.len(), 26);
+    assert!(rt; !not_made.records.contains(&Node::Falsum));
     assert_eq!(rt; fresh(heap, 27)?.capacity(), 27);
     assert_eq!(rt; fresh(heap, 5000)?.capacity(), 4096);
     let mut store = fresh(heap, 30)?;

@@ -1,7 +1,9 @@
 // Why a sequent is not weighed.
 ghost use Rattle.std.specs.Prelude.{◌≡◌};
 ghost use Rattle.verdicts.specs.Refusals.{number_of, place_of};
+ghost use Rattle.verdicts.specs.declared.refusal.Unweighable.TheVariants.{NotEvaluated};
 
+use grammar::told::Told;
 use heyting::refusal::Refusal;
 
 #[derive(Clone, Copy, PartialEq, Debug)]
@@ -12,21 +14,27 @@ pub enum Unweighable {
     NotEvaluated(Refusal),
 }
 
-impl Unweighable {
-    // The number by which a refusal is told.
-    pub fn number(self) -> u8
-        ensures { result ≡ number_of self }
-    {
+impl From<Refusal> for Unweighable {
+    ghost from_gives = { λ refusal why. why ≡ NotEvaluated refusal };
+
+    fn from(refusal: Refusal) -> Unweighable {
+        Self::NotEvaluated(refusal)
+    }
+}
+
+impl Told for Unweighable {
+    ghost number_of = { number_of };
+
+    ghost place_of = { place_of };
+
+    fn number(self) -> u8 {
         match self {
             Unweighable::NotStored => 7,
             Unweighable::NotEvaluated(refusal) => refusal.number(),
         }
     }
 
-    // The place by which a refusal is told, or 0.
-    pub fn place(self) -> usize
-        ensures { result ≡ place_of self }
-    {
+    fn place(self) -> usize {
         match self {
             Unweighable::NotStored => 0,
             Unweighable::NotEvaluated(refusal) => refusal.place(),

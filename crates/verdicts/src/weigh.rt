@@ -1,4 +1,4 @@
-// Weighs a sequent.
+// Weighs a sequent. The algebra and the valuation stay apart, as in evaluating.
 ghost use Rattle.std.specs.Prelude.{◌≡◌, Decides};
 ghost use Rattle.formulas.specs.Stores.{contents};
 ghost use Rattle.heyting.specs.Meaning.{Member, Below};
@@ -16,12 +16,7 @@ use weighing::valuation::Valuation;
 fn all_below(places: &[usize], count: usize) -> bool
     ensures { Decides result (AllBelow places.now count) }
 {
-    for place in places {
-        if *place >= count {
-            return false;
-        }
-    }
-    true
+    places.iter().all(|place| *place < count)
 }
 
 // Whether the premises and the conclusion are stored.
@@ -32,7 +27,7 @@ fn is_stored(sequent: &Sequent, store: &Store) -> bool
     all_below(sequent.premises(), count) && sequent.conclusion < count
 }
 
-// The meet of the values at places, in their order.
+// The meet of the values at places, in their order: a loop, as the meet is defined, from the top on.
 fn meet_of_places<A: Algebra>(algebra: &A, values: &[u32], places: &[usize]) -> u32
     requires { Valued (A.Algebra.means algebra.now) values.now places.now }
     ensures meet { result ≡ meet_at (A.Algebra.means algebra.now) values.now places.now }
@@ -69,9 +64,7 @@ pub fn weigh<A: Algebra>(
     if !is_stored(sequent, store) {
         return Err(Unweighable::NotStored);
     }
-    if let Err(refusal) = evaluate(store, algebra, valuation, values) {
-        return Err(Unweighable::NotEvaluated(refusal));
-    }
+    evaluate(store, algebra, valuation, values)?;
     let meet = meet_of_places(algebra, values, sequent.premises());
     let conclusion = values[sequent.conclusion];
     Ok(Verdict {

@@ -1,5 +1,5 @@
 // Evaluates the formulas of a store.
-ghost use Rattle.std.specs.Prelude.{◌≡◌, MatchResult};
+ghost use Rattle.std.specs.Prelude.{◌≡◌, ℕ, MatchResult};
 ghost use Rattle.formulas.specs.Stores.{contents};
 ghost use Rattle.heyting.specs.Evaluating.{FirstStranger, Evaluated, worth, Ready};
 ghost use Rattle.heyting.specs.Values.{ByMembers};
@@ -7,20 +7,18 @@ ghost use Rattle.heyting.specs.Values.{ByMembers};
 use crate::valuation::Valuation;
 use algebras::algebra::Algebra;
 use formulas::store::Store;
-use grammar::connective::Connective;
 use grammar::node::Node;
 use heyting::refusal::Refusal;
 
 // Whether the letters have members.
-fn check_letters<A: Algebra>(algebra: &A, valuation: &Valuation) -> Result<(), usize>
-    ensures { MatchResult result (λ _. ByMembers (A.Algebra.means algebra.now) valuation.now.letters) (λ place. FirstStranger (A.Algebra.means algebra.now) valuation.now.letters place) }
+fn check_letters<A: Algebra>(algebra: &A, valuation: &Valuation) -> Result<(), Refusal>
+    ensures { MatchResult result (λ _. ByMembers (A.Algebra.means algebra.now) valuation.now.letters) (λ e. (place : ℕ) × (e ≡ Refusal.LetterNotMember place) × FirstStranger (A.Algebra.means algebra.now) valuation.now.letters place) }
 {
-    for (i, element) in valuation.letters.iter().enumerate() {
-        if !algebra.contains(*element) {
-            return Err(i + 1);
-        }
+    let mut letters = valuation.letters.iter();
+    match letters.position(|element| !algebra.contains(*element)) {
+        Some(i) => Err(Refusal::LetterNotMember(i + 1)),
+        None => Ok(()),
     }
-    Ok(())
 }
 
 // What the formula of a record is worth, from the values of its parts.
@@ -32,18 +30,13 @@ fn worth_of<A: Algebra>(algebra: &A, valuation: &Valuation, values: &[u32], node
         Node::Falsum => algebra.bottom(),
         Node::Letter(byte) => valuation.letters[(byte - b'a') as usize],
         Node::Joined(connective, first, second) => {
-            let a = values[first as usize];
-            let b = values[second as usize];
-            match connective {
-                Connective::And => algebra.meet_of(a, b),
-                Connective::Or => algebra.join_of(a, b),
-                Connective::Implies => algebra.arrow_of(a, b),
-            }
+            algebra.operation_of(connective, values[first as usize], values[second as usize])
         }
     }
 }
 
 // Writes the value of each stored formula at its place in the buffer, and leaves the rest of the buffer.
+// The algebra and the valuation stay apart: a struct of both would be made for one call and taken apart in it.
 pub fn evaluate<A: Algebra>(
     store: &Store,
     algebra: &A,
@@ -56,14 +49,10 @@ pub fn evaluate<A: Algebra>(
     if values.len() < count {
         return Err(Refusal::ShortBuffer);
     }
-    if let Err(letter) = check_letters(algebra, valuation) {
-        return Err(Refusal::LetterNotMember(letter));
-    }
+    check_letters(algebra, valuation)?;
+    // By place, since each value is made of those at lower places of the same buffer.
     for place in 0..count {
-        let node = match store.node(place) {
-            Ok(node) => node,
-            Err(_) => unreachable(),
-        };
+        let node = store.node(place).unwrap();
         values[place] = worth_of(algebra, valuation, values, node);
     }
     Ok(())

@@ -1,7 +1,7 @@
 // An element of an algebra for each letter.
 
 // The first is for a, the last for z.
-#[derive(Clone, Copy)]
+#[derive(Clone, Copy, PartialEq, Debug)]
 pub struct Valuation {
     pub letters: [u32; 26],
 }

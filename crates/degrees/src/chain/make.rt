@@ -3,8 +3,7 @@ ghost use Rattle.std.specs.Prelude.{◌≡◌, MatchResult};
 ghost use Rattle.degrees.specs.Chains.{InRange};
 
 use crate::chain::Chain;
-
-const MOST_DEGREES: u32 = 65536;
+use heyting::limits::MOST_SPAN;
 
 // The number of degrees is not 1 to 65,536.
 #[derive(Clone, Copy, PartialEq, Debug)]
@@ -15,7 +14,7 @@ impl Chain {
     pub fn new(degrees: u32) -> Result<Chain, OutOfRange>
         ensures { MatchResult result (λ chain. InRange degrees × (chain.degrees ≡ degrees)) (λ _. InRange degrees → ⊥) }
     {
-        if degrees < 1 || degrees > MOST_DEGREES {
+        if degrees < 1 || degrees > MOST_SPAN {
             return Err(OutOfRange);
         }
         Ok(Chain { degrees })

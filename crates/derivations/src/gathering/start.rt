@@ -3,11 +3,12 @@ ghost use Rattle.std.specs.Prelude.{[], ◌∷◌};
 ghost use Rattle.fitch.specs.History.{History, begin};
 ghost use Rattle.soundness.specs.Soundness.{Sound};
 ghost use Rattle.derivations.specs.Gathered.{Gathered, Fresh};
-ghost use Rattle.derivations.specs.Derived.{Derived};
+ghost use Rattle.derivations.specs.Derived.{mode_in, Derived};
 ghost use Rattle.derivations.specs.Moved.{Opens};
 
 use crate::gathering::Gathering;
 use crate::open::Open;
+use crate::sheet::Sheet;
 use boxes::boxes::Boxes;
 use fitch::mode::Mode;
 use formulas::store::Store;
@@ -20,31 +21,26 @@ impl<'s, 'l> Gathering<'s, 'l> {
         ensures fresh { Fresh store.now lines.old mode result }
     {
         Gathering {
-            store,
-            lines,
-            count: 0,
-            mode,
+            sheet: Sheet {
+                store,
+                lines,
+                count: 0,
+                mode,
+            },
         }
     }
 
     // Ends the gathering.
+    #[tactic(auto, using(ledger::proofs::Calling::begun))]
     pub fn open(self) -> Open<'s, 'l>
         ensures history { (h : History) → Gathered self.entry h → Derived result (begin ∷ h) }
-        ensures sound { (h : History) → Derived result h → Sound result.mode h }
+        ensures sound { (h : History) → Derived result h → Sound (mode_in result) h }
         ensures keeps { Opens self.entry result }
     {
-        let Gathering {
-            store,
-            lines,
-            count,
-            mode,
-        } = self;
+        let Gathering { sheet } = self;
         Open {
-            store,
-            lines,
-            count,
-            premises: count,
-            mode,
+            premises: sheet.count,
+            sheet,
             boxes: Boxes::new(),
         }
     }

@@ -4,55 +4,52 @@ ghost use Rattle.fitch.specs.Calls.{close_checks};
 ghost use Rattle.fitch.specs.Checks.{Accepted, Refused};
 ghost use Rattle.fitch.specs.History.{History, count, assume, close};
 ghost use Rattle.soundness.specs.Soundness.{Sound};
-ghost use Rattle.derivations.specs.Derived.{Derived, Leaves, formula_in, checks_of_assume};
+ghost use Rattle.derivations.specs.Derived.{mode_in, Derived, Leaves, checks_of_assume};
+ghost use Rattle.derivations.specs.Sheets.{formula_of};
 
 use crate::open::Open;
 use fitch::refusal::Refusal;
 use fitch::rule::Reason;
-use ledger::line::Line;
+use ledger::line::{BLANK, Line};
 
 impl<'s, 'l> Open<'s, 'l> {
     // Opens a box with an assumption, and answers its line's number.
+    #[tactic(auto, using(crate::proofs::Sounding::derived_sound, crate::proofs::Writing::write_leaves))]
     pub fn assume(&mut self, formula: usize) -> Result<usize, Refusal>
-        ensures exact { (h : History) → Derived self.old h → MatchResult result (λ n. Accepted (checks_of_assume self.old h formula) × (n ≡ suc (count h)) × Derived self.new (assume (formula_in self.old formula) ∷ h)) (Refused (checks_of_assume self.old h formula)) }
-        ensures sound { (h : History) → Derived self.new h → Sound self.new.mode h }
+        ensures exact { (h : History) → Derived self.old h → MatchResult result (λ n. Accepted (checks_of_assume self.old h formula) × (n ≡ suc (count h)) × Derived self.new (assume (formula_of self.old.sheet formula) ∷ h)) (Refused (checks_of_assume self.old h formula)) }
+        ensures sound { (h : History) → Derived self.new h → Sound (mode_in self.new) h }
         ensures leaves { Leaves self.old self.new }
         ensures unchanged { OnErr result (self.new ≡ self.old) }
     {
-        if formula >= self.store.count() {
-            return Err(Refusal::NotStored);
-        }
+        self.sheet.stored(formula)?;
         if !self.boxes.has_room() {
             return Err(Refusal::ManyBoxes);
         }
-        if !self.has_room() {
-            return Err(Refusal::NoRecord);
-        }
+        self.sheet.room()?;
         let around = self.boxes.innermost();
-        let number = self.count + 1;
-        self.lines[self.count] = Line {
+        let number = self.sheet.count + 1;
+        self.sheet.write(Line {
             formula,
             reason: Reason::Assumption,
             inside: number,
             around,
-            end: 0,
-        };
-        self.count = number;
-        self.boxes.open(number);
+            ..BLANK
+        });
+        // There is room for the box, so this refuses nothing.
+        self.boxes.open(number)?;
         Ok(number)
     }
 
     // Closes the innermost open box: its end is put into its first line's record.
+    #[tactic(auto, using(crate::proofs::Sounding::derived_sound, crate::proofs::Writing::first_some, crate::proofs::Writing::first_within, crate::proofs::Writing::end_leaves))]
     pub fn close(&mut self) -> Result<(), Refusal>
         ensures exact { (h : History) → Derived self.old h → MatchResult result (λ _. Accepted (close_checks h) × Derived self.new (close ∷ h)) (Refused (close_checks h)) }
-        ensures sound { (h : History) → Derived self.new h → Sound self.new.mode h }
+        ensures sound { (h : History) → Derived self.new h → Sound (mode_in self.new) h }
         ensures leaves { Leaves self.old self.new }
         ensures unchanged { OnErr result (self.new ≡ self.old) }
     {
-        let Some(top) = self.boxes.top() else {
-            return Err(Refusal::NoOpenBox);
-        };
-        self.lines[top.first - 1].end = top.end;
+        let top = self.boxes.top().ok_or(Refusal::NoOpenBox)?;
+        self.sheet.end_box(top);
         self.boxes.close();
         Ok(())
     }

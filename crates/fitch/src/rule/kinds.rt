@@ -1,43 +1,41 @@
 // What a rule takes, and in which modes.
 ghost use Rattle.std.specs.Prelude.{◌≡◌, ◌<◌, ◌≤◌, length, Decides, MatchOption, slice_index_or};
-ghost use Rattle.fitch.specs.Rules.{kinds, Serves};
+ghost use Rattle.fitch.specs.Rules.{kinds as kinds_of, Serves};
 
 use crate::mode::Mode;
 use crate::rule::{Kind, Rule};
 
 impl Rule {
-    // How many citations the rule takes.
-    pub fn arity(self) -> usize
-        ensures { result ≡ length (kinds self) }
+    // What the rule cites, in its order.
+    pub fn kinds(self) -> &'static [Kind]
+        ensures { result.now ≡ kinds_of self }
     {
         match self {
-            Rule::AndIntro | Rule::ImpElim => 2,
-            Rule::OrElim => 3,
-            _ => 1,
+            Rule::AndIntro | Rule::ImpElim => &[Kind::Line, Kind::Line],
+            Rule::OrElim => &[Kind::Line, Kind::Box, Kind::Box],
+            Rule::ImpIntro | Rule::Reductio => &[Kind::Box],
+            _ => &[Kind::Line],
         }
+    }
+
+    // How many citations the rule takes.
+    pub fn arity(self) -> usize
+        ensures { result ≡ length (kinds_of self) }
+    {
+        self.kinds().len()
     }
 
     // What the rule cites at a place, counted from 0, if it cites so many.
     pub fn kind(self, place: usize) -> Option<Kind>
-        ensures { MatchOption result (length (kinds self) ≤ place) (λ k. (place < length (kinds self)) × (k ≡ slice_index_or (kinds self) place Kind.Line)) }
+        ensures { MatchOption result (length (kinds_of self) ≤ place) (λ k. (place < length (kinds_of self)) × (k ≡ slice_index_or (kinds_of self) place Kind.Line)) }
     {
-        if place >= self.arity() {
-            return None;
-        }
-        match self {
-            Rule::ImpIntro | Rule::Reductio => Some(Kind::Box),
-            Rule::OrElim if place > 0 => Some(Kind::Box),
-            _ => Some(Kind::Line),
-        }
+        self.kinds().get(place).copied()
     }
 
     // Whether the rule is of a mode.
     pub fn serves(self, mode: Mode) -> bool
         ensures { Decides result (Serves mode self) }
     {
-        match (mode, self) {
-            (Mode::Constructive, Rule::Reductio) => false,
-            _ => true,
-        }
+        !matches!((mode, self), (Mode::Constructive, Rule::Reductio))
     }
 }

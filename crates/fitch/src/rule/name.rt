@@ -5,7 +5,7 @@ ghost use Rattle.fitch.specs.Names.{name_of};
 use crate::rule::Rule;
 
 impl Rule {
-    // The rule of a name, if it is exactly one of the eleven.
+    // The rule of a name, if it is exactly one of the eleven. By `TryFrom` the error would be a type that says nothing.
     pub fn from_name(name: &[u8]) -> Option<Rule>
         ensures { MatchOption result ((rule : Rule) → name.now ≢ name_of rule) (λ rule. name.now ≡ name_of rule) }
     {

@@ -1,13 +1,13 @@
 // Enters a text that was recognised.
-ghost use Rattle.std.specs.Prelude.{◌≡◌, ℕ, slice_index};
+ghost use Rattle.std.specs.Prelude.{◌≡◌, ℕ};
 ghost use Rattle.grammar.specs.Entering.{Enterable};
 ghost use Rattle.grammar.specs.Formula.{Formula};
 ghost use Rattle.grammar.specs.Reading.{Enters};
 ghost use Rattle.grammar.specs.Scanning.{Stands};
-ghost use Rattle.grammar.specs.Symbols.{symbol};
 ghost use Rattle.formulas.specs.Stores.{contents, capacity, OthersStay};
 
 use crate::store::Store;
+use crate::store::make::{FALSUM, letter_place};
 use grammar::connective::Connective;
 use grammar::node::Node;
 use grammar::symbol::Symbol;
@@ -20,17 +20,6 @@ pub(crate) struct Entered {
     pub(crate) end: usize,
 }
 
-// The connective whose sign stands at a place.
-fn connective_at(text: &[u8], at: usize) -> Connective
-    requires { (k : Connective) × (symbol (slice_index text.now at) ≡ Symbol.Sign k) }
-    ensures { symbol (slice_index text.now at) ≡ Symbol.Sign result }
-{
-    match symbol_at(text, at) {
-        Symbol::Sign(connective) => connective,
-        _ => unreachable(),
-    }
-}
-
 impl Store {
     // Enters the formula whose text stands at a place, its missing parts first.
     pub(crate) fn enter(&mut self, text: &[u8], at: usize) -> Entered
@@ -40,12 +29,16 @@ impl Store {
     {
         match symbol_at(text, at) {
             Symbol::Letter => Entered {
-                place: (text[at] - b'a') as usize + 1,
+                place: letter_place(text[at]),
                 end: at + 1,
             },
             Symbol::Not => {
                 let part = self.enter(text, at + 1);
-                let place = self.place_of(Node::Joined(Connective::Implies, part.place as u16, 0));
+                let place = self.place_of(Node::Joined(
+                    Connective::Implies,
+                    part.place as u16,
+                    FALSUM as u16,
+                ));
                 Entered {
                     place,
                     end: part.end,
@@ -53,7 +46,9 @@ impl Store {
             }
             Symbol::Open => {
                 let first = self.enter(text, at + 1);
-                let connective = connective_at(text, first.end);
+                let Symbol::Sign(connective) = symbol_at(text, first.end) else {
+                    unreachable!()
+                };
                 let second = self.enter(text, first.end + 1);
                 let place = self.place_of(Node::Joined(
                     connective,
@@ -67,7 +62,7 @@ impl Store {
             }
             // What begins a formula and is none of these is falsum.
             _ => Entered {
-                place: 0,
+                place: FALSUM,
                 end: at + 1,
             },
         }

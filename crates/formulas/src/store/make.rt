@@ -1,5 +1,5 @@
 // Makes a store, and gives its records back.
-ghost use Rattle.std.specs.Prelude.{◌≡◌, MatchResult};
+ghost use Rattle.std.specs.Prelude.{◌≡◌, ◌+◌, ◌-◌, ◌≤◌, MatchResult};
 ghost use Rattle.formulas.specs.Making.{Made, NotEnough};
 ghost use Rattle.formulas.specs.Stores.{records as records_of};
 
@@ -9,11 +9,31 @@ use grammar::refusal::Refusal;
 
 const BASIC: usize = 27;
 
-// A store that was not made, and the records that were to hold it.
+// The place of # in every store.
+pub const FALSUM: usize = 0;
+
+// The place of a letter in every store.
+pub(crate) fn letter_place(letter: u8) -> usize
+    requires { 97 ≤ letter }
+    ensures { result ≡ letter - 97 + 1 }
+{
+    (letter - b'a') as usize + 1
+}
+
+// A store that was not made, and the records that were to hold it. Not one generic type with its likes, since each names what it gives back.
 #[derive(Drop)]
 pub struct NotMade {
     pub refusal: Refusal,
     pub records: Vec<Node>,
+}
+
+// The refusal alone, for a caller that needs the records no more.
+impl From<NotMade> for Refusal {
+    ghost from_gives = { λ n refusal. refusal ≡ n.refusal };
+
+    fn from(not_made: NotMade) -> Refusal {
+        not_made.refusal
+    }
 }
 
 impl Store {
@@ -28,9 +48,9 @@ impl Store {
             });
         }
         let mut nodes = records;
-        nodes[0] = Node::Falsum;
-        for i in 1..BASIC {
-            nodes[i] = Node::Letter(b'a' + (i - 1) as u8);
+        nodes[FALSUM] = Node::Falsum;
+        for letter in b'a'..=b'z' {
+            nodes[letter_place(letter)] = Node::Letter(letter);
         }
         Ok(Store { nodes, used: BASIC })
     }

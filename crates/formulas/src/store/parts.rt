@@ -4,6 +4,7 @@ ghost use Rattle.grammar.specs.Records.{MadeOf};
 ghost use Rattle.formulas.specs.Stores.{contents, count as count_of};
 
 use crate::store::Store;
+use crate::store::stored::Stored;
 use grammar::node::Node;
 use grammar::refusal::Refusal;
 
@@ -12,9 +13,6 @@ impl Store {
     pub fn node(&self, place: usize) -> Result<Node, Refusal>
         ensures { MatchResult result (MadeOf (contents self.now) place) (λ e. (e ≡ Refusal.NotStored) × (count_of self.now ≤ place)) }
     {
-        if place >= self.used {
-            return Err(Refusal::NotStored);
-        }
-        Ok(self.nodes[place])
+        self.stored(place).map(Stored::node)
     }
 }

@@ -9,6 +9,7 @@ use grammar::node::Node;
 
 impl Store {
     // The place of a record, which is added if it is not there.
+    #[tactic(auto, using(crate::proofs::Stores::count_is_used))]
     pub(crate) fn place_of(&mut self, node: Node) -> usize
         requires room { count self.old < capacity self.old }
         requires below { parts_below (count self.old) node ≡ true }
@@ -31,11 +32,8 @@ impl Store {
     fn find(&self, node: Node) -> Option<usize>
         ensures { MatchOption result ((k : ℕ) → k < self.now.used → slice_index_or (records self.now) k Node.Falsum ≢ node) (λ p. (p < self.now.used) × (slice_index_or (records self.now) p Node.Falsum ≡ node)) }
     {
-        for place in 0..self.used {
-            if self.nodes[place] == node {
-                return Some(place);
-            }
-        }
-        None
+        self.nodes[..self.used]
+            .iter()
+            .position(|stored| *stored == node)
     }
 }

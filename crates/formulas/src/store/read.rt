@@ -7,6 +7,7 @@ use scanner::recognise::recognise;
 
 impl Store {
     // The place of the formula whose text this is; it is entered if it is not there.
+    #[tactic(auto, using(crate::proofs::Stores::count_is_used))]
     pub fn read(&mut self, text: &[u8]) -> Result<usize, Refusal>
         ensures { Reads text.now self.old self.new result }
     {

@@ -8,6 +8,7 @@ const MOST_RECORDS: usize = 4096;
 
 impl Store {
     // How many records are in use: the formulas stand at the places below.
+    #[tactic(auto, using(crate::proofs::Stores::count_is_used))]
     pub fn count(&self) -> usize
         ensures { result ≡ count_of self.now }
     {

@@ -1,32 +1,22 @@
 // Writes a formula's text.
-ghost use Rattle.std.specs.Prelude.{◌≡◌, ◌+◌, ◌<◌, ◌≤◌, length, take, IfOk};
-ghost use Rattle.grammar.specs.Symbols.{sign as byte_of};
-ghost use Rattle.grammar.specs.Writing.{put, text_at, Written, ReadsBack};
-ghost use Rattle.formulas.specs.Spelled.{SpelledBy};
-ghost use Rattle.formulas.specs.Stores.{contents, count};
+ghost use Rattle.std.specs.Prelude.{◌≡◌, ◌+◌, ◌≤◌, length, take, IfOk};
+ghost use Rattle.grammar.specs.Writing.{put, Written, ReadsBack};
+ghost use Rattle.formulas.specs.Spelled.{SpelledBy, text_of};
+ghost use Rattle.formulas.specs.Stores.{contents};
 
 use crate::store::Store;
+use crate::store::make::FALSUM;
+use crate::store::stored::Stored;
 use grammar::connective::Connective;
 use grammar::node::Node;
 use grammar::refusal::Refusal;
 
-// How a formula is spelled: its byte, or the places of its parts.
+// How a formula is spelled: its byte, or its parts, with the byte of their sign.
 #[derive(Clone, Copy)]
-enum Spelling {
+enum Spelling<'a> {
     Atom(u8),
-    Negation(usize),
-    Joined(u8, usize, usize),
-}
-
-// The byte of a connective's sign.
-fn sign_of(connective: Connective) -> u8
-    ensures { result ≡ byte_of connective }
-{
-    match connective {
-        Connective::And => b'&',
-        Connective::Or => b'|',
-        Connective::Implies => b'>',
-    }
+    Negation(Stored<'a>),
+    Joined(u8, Stored<'a>, Stored<'a>),
 }
 
 impl Store {
@@ -35,67 +25,65 @@ impl Store {
         ensures written { Written (contents self.now) place buffer.old buffer.new result }
         ensures back { IfOk result (λ n. ReadsBack (contents self.now) place (take n buffer.new)) }
     {
-        if place >= self.used {
-            return Err(Refusal::NotStored);
-        }
-        if buffer.len() < self.text_len(place) {
+        let formula = self.stored(place)?;
+        if buffer.len() < formula.text_len() {
             return Err(Refusal::ShortBuffer);
         }
-        Ok(self.write_at(place, buffer, 0))
+        Ok(formula.write_at(buffer, 0))
     }
+}
 
-    // How the formula at a place is spelled.
-    fn spelling_of(&self, place: usize) -> Spelling
-        requires { place < count self.now }
-        ensures { SpelledBy (contents self.now) place result }
+impl<'a> Stored<'a> {
+    // How the formula is spelled.
+    fn spelling(self) -> Spelling<'a>
+        ensures { SpelledBy self.entry result }
     {
-        let node = self.nodes[place];
-        match node {
+        match self.node() {
             Node::Falsum => Spelling::Atom(b'#'),
             Node::Letter(letter) => Spelling::Atom(letter),
             Node::Joined(connective, first, second) => {
-                if connective == Connective::Implies && second == 0 {
-                    Spelling::Negation(first as usize)
+                // Tried by a pattern for the negation: the proof of the next arm then does not know that the formula is none.
+                let (first, second) = (first as usize, second as usize);
+                if connective == Connective::Implies && second == FALSUM {
+                    Spelling::Negation(self.below(first))
                 } else {
-                    Spelling::Joined(sign_of(connective), first as usize, second as usize)
+                    Spelling::Joined(u8::from(connective), self.below(first), self.below(second))
                 }
             }
         }
     }
 
-    // How long the text of the formula at a place is.
-    fn text_len(&self, place: usize) -> usize
-        requires { place < count self.now }
-        ensures { result ≡ length (text_at (contents self.now) place) }
+    // How long the formula's text is.
+    fn text_len(self) -> usize
+        ensures { result ≡ length (text_of self.entry) }
     {
-        match self.spelling_of(place) {
+        match self.spelling() {
             Spelling::Atom(_) => 1,
-            Spelling::Negation(part) => self.text_len(part) + 1,
-            Spelling::Joined(_, first, second) => self.text_len(first) + self.text_len(second) + 3,
+            Spelling::Negation(part) => part.text_len() + 1,
+            Spelling::Joined(_, first, second) => first.text_len() + second.text_len() + 3,
         }
     }
 
     // Writes the text from a place of the buffer on, and answers where it ends.
-    fn write_at(&self, place: usize, buffer: &mut [u8], at: usize) -> usize
-        requires stored { place < count self.now }
-        requires room { at + length (text_at (contents self.now) place) ≤ length buffer.old }
-        ensures ends { result ≡ at + length (text_at (contents self.now) place) }
-        ensures wrote { buffer.new ≡ put buffer.old at (text_at (contents self.now) place) }
+    fn write_at(self, buffer: &mut [u8], at: usize) -> usize
+        requires { at + length (text_of self) ≤ length buffer.old }
+        ensures ends { result ≡ at + length (text_of self.entry) }
+        ensures wrote { buffer.new ≡ put buffer.old at (text_of self.entry) }
     {
-        match self.spelling_of(place) {
+        match self.spelling() {
             Spelling::Atom(byte) => {
                 buffer[at] = byte;
                 at + 1
             }
             Spelling::Negation(part) => {
                 buffer[at] = b'~';
-                self.write_at(part, buffer, at + 1)
+                part.write_at(buffer, at + 1)
             }
             Spelling::Joined(sign, first, second) => {
                 buffer[at] = b'(';
-                let middle = self.write_at(first, buffer, at + 1);
+                let middle = first.write_at(buffer, at + 1);
                 buffer[middle] = sign;
-                let end = self.write_at(second, buffer, middle + 1);
+                let end = second.write_at(buffer, middle + 1);
                 buffer[end] = b')';
                 end + 1
             }

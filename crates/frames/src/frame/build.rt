@@ -6,6 +6,7 @@ ghost use Rattle.heyting.specs.Tables.{table, related};
 
 use crate::frame::Frame;
 use crate::frame::sets::has;
+use std::array;
 
 impl Frame {
     // Worlds of which none is above another.
@@ -14,24 +15,24 @@ impl Frame {
         ensures worlds { result.worlds ≡ worlds }
         ensures above { (u v : ℕ) → u < worlds → table result.up u v ≡ (u == v) }
     {
-        let mut up = [0; 12];
-        for u in 0..worlds {
-            up[u as usize] = 1 << u;
+        Frame {
+            worlds,
+            up: array::from_fn(|u| 1 << u),
         }
-        Frame { worlds, up }
     }
 
     // Puts world `v` above world `u`.
     fn relate(&mut self, u: u8, v: u8)
-        requires { (u < self.old.worlds) × (v < self.old.worlds) }
+        requires first { u < self.old.worlds }
+        requires second { v < self.old.worlds }
         ensures worlds { self.new.worlds ≡ self.old.worlds }
         ensures above { (w x : ℕ) → w < self.old.worlds → table self.new.up w x ≡ related (table self.old.up) u v w x }
     {
         let mut up = self.up;
         let above = up[v as usize];
-        for w in 0..self.worlds {
-            if has(up[w as usize] as u32, u) {
-                up[w as usize] |= above;
+        for row in &mut up {
+            if has(*row as u32, u) {
+                *row |= above;
             }
         }
         self.up = up;
@@ -44,8 +45,8 @@ impl Frame {
         ensures above { (u v : ℕ) → u < worlds → v < worlds → Decides (table result.up u v) (Order pairs.now u v) }
     {
         let mut frame = Frame::discrete(worlds as u8);
-        for pair in pairs {
-            frame.relate(pair.0 as u8, pair.1 as u8);
+        for (u, v) in pairs {
+            frame.relate(*u as u8, *v as u8);
         }
         frame
     }

@@ -1,5 +1,5 @@
 // A frame is an algebra: its members are the sets that have with each world all above it.
-ghost use Rattle.std.specs.Prelude.{◌≡◌};
+ghost use Rattle.std.specs.Prelude.{◌≡◌, ◌<◌, slice_index};
 ghost use Rattle.heyting.proofs.Kripke.{kripke_lawful};
 ghost use Rattle.heyting.specs.Tables.{table, each, closed_at};
 ghost use Rattle.frames.specs.Frames.{frame_means};
@@ -12,16 +12,19 @@ use algebras::algebra::Algebra;
 const EMPTY: u32 = 0;
 
 impl Frame {
+    // The set of the worlds at or above a world.
+    fn above(&self, u: u8) -> u32
+        requires { u < self.now.worlds }
+        ensures { result ≡ slice_index self.now.up u }
+    {
+        self.up[u as usize] as u32
+    }
+
     // Whether `a` has with each world the worlds above it.
     fn is_closed(&self, a: u32) -> bool
         ensures { result ≡ each (closed_at self.now.worlds (table self.now.up) a) self.now.worlds }
     {
-        for u in 0..self.worlds {
-            if has(a, u) && !inside(self.up[u as usize] as u32, a) {
-                return false;
-            }
-        }
-        true
+        (0..self.worlds).all(|u| !has(a, u) || inside(self.above(u), a))
     }
 
     // The worlds `u` such that every world of `a` at or above `u` is in `b`.
@@ -29,8 +32,9 @@ impl Frame {
         ensures { result ≡ (frame_means self.now).arrow a b }
     {
         let mut worlds = EMPTY;
+        // World by world: `fold` over them would say the same, with the set and the test in one closure.
         for u in 0..self.worlds {
-            if inside(self.up[u as usize] as u32 & a, b) {
+            if inside(self.above(u) & a, b) {
                 worlds |= 1 << u;
             }
         }

@@ -7,16 +7,24 @@ ghost use Rattle.heyting.specs.declared.refusal.Refusal.TheVariants.{SpanTooLarg
 
 use crate::product::Product;
 use algebras::algebra::Algebra;
+use heyting::limits::MOST_SPAN;
 use heyting::refusal::Refusal;
 
-const MOST_SPAN: u64 = 65536;
-
-// A product that was not made, and the algebras that were to be its parts.
+// A product that was not made, and the algebras that were to be its parts. Not one generic type with its likes, since each names what it gives back.
 #[derive(Drop)]
 pub struct NotMade<A, B> {
     pub refusal: Refusal,
     pub first: A,
     pub second: B,
+}
+
+// The refusal alone, for `?`.
+impl<A: Drop, B: Drop> From<NotMade<A, B>> for Refusal {
+    ghost from_gives = { λ e r. r ≡ e.refusal };
+
+    fn from(not_made: NotMade<A, B>) -> Refusal {
+        not_made.refusal
+    }
 }
 
 impl<A: Algebra, B: Algebra> Product<A, B> {
@@ -40,7 +48,7 @@ impl<A: Algebra, B: Algebra> Product<A, B> {
     pub(crate) fn stands(&self) -> bool
         ensures { result ≡ nat_le ((A.Algebra.means self.now.first).span * (B.Algebra.means self.now.second).span) most_span }
     {
-        self.first.span() as u64 * self.second.span() as u64 <= MOST_SPAN
+        u64::from(self.first.span()) * u64::from(self.second.span()) <= u64::from(MOST_SPAN)
     }
 
     // The parts of a code.

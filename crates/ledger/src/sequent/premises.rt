@@ -9,6 +9,6 @@ impl Sequent {
     pub fn premises(&self) -> &[usize]
         ensures { result.now ≡ premise_places self.now }
     {
-        &self.places[0..self.count]
+        &self.places[..self.count]
     }
 }

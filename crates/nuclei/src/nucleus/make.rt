@@ -8,11 +8,20 @@ use crate::nucleus::Nucleus;
 use algebras::algebra::Algebra;
 use heyting::refusal::Refusal;
 
-// A layer that was not made, and the algebra that was to stand below it.
+// A layer that was not made, and the algebra that was to stand below it. Not one generic type with its likes, since each names what it gives back.
 #[derive(Drop)]
 pub struct NotMade<A> {
     pub refusal: Refusal,
     pub below: A,
+}
+
+// The refusal alone, for `?`.
+impl<A: Drop> From<NotMade<A>> for Refusal {
+    ghost from_gives = { λ e r. r ≡ e.refusal };
+
+    fn from(not_made: NotMade<A>) -> Refusal {
+        not_made.refusal
+    }
 }
 
 impl<A: Algebra> Nucleus<A> {
@@ -31,7 +40,9 @@ impl<A: Algebra> Nucleus<A> {
 
     // The layer at the bottom, whose members are those that equal their double negation.
     pub fn double_negation(below: A) -> Nucleus<A>
-        ensures { (result.below ≡ below) × (result.element ≡ (A.Algebra.means below).bottom) × Member (A.Algebra.means below) result.element }
+        ensures below { result.below ≡ below }
+        ensures element { result.element ≡ (A.Algebra.means below).bottom }
+        ensures member { Member (A.Algebra.means below) result.element }
     {
         let element = below.bottom();
         Nucleus { below, element }

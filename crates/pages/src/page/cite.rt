@@ -1,8 +1,9 @@
-// What citations stand for.
-ghost use Rattle.std.specs.Prelude.{◌<◌, ◌≤◌, IfNone, Decides, MatchOption};
-ghost use Rattle.fitch.specs.Exact.{StillOpen, Missing, NoneMissing};
+// What citations stand for. That what they answer is stored is said of each: a place is a number, and no type of it says in which store it stands.
+ghost use Rattle.std.specs.Prelude.{◌≡◌, Decides, is_none, position};
+ghost use Rattle.fitch.specs.Exact.{StillOpen};
 ghost use Rattle.fitch.specs.History.{History};
-ghost use Rattle.ledger.specs.Citing.{Numbered, Resolves, PlacedIn};
+ghost use Rattle.ledger.specs.Citing.{Resolves, PlacedIn};
+ghost use Rattle.ledger.specs.Telling.{record_of};
 ghost use Rattle.pages.specs.Pages.{Has, formulas_on};
 
 use crate::page::Page;
@@ -12,20 +13,18 @@ use shapes::cited::Cited;
 impl<'p> Page<'p> {
     // Whether a box is open, by its first line, or there is none.
     fn is_open(&self, first: usize) -> bool
-        requires { first ≤ self.now.count }
         ensures { (h : History) → Has self.now h → Decides result (StillOpen h first) }
     {
-        first == 0 || self.lines[first - 1].end == 0
+        self.record_of(first).is_none_or(|line| line.end == 0)
     }
 
     // The formula of a reachable line.
+    #[tactic(auto, using(crate::proofs::Reading::line_steps))]
     fn line_cited(&self, number: usize) -> Option<Cited>
-        requires some { 0 < number }
-        requires within { number ≤ self.now.count }
         ensures resolves { (h : History) → Has self.now h → Resolves (formulas_on self.now) h Kind.Line number result }
         ensures placed { PlacedIn (formulas_on self.now) result }
     {
-        let line = self.lines[number - 1];
+        let line = self.record_of(number)?;
         if !self.is_open(line.inside) {
             return None;
         }
@@ -33,25 +32,20 @@ impl<'p> Page<'p> {
     }
 
     // What a reachable box assumes, and what it ends with.
+    #[tactic(auto, using(crate::proofs::Reading::box_steps))]
     fn box_cited(&self, number: usize) -> Option<Cited>
-        requires some { 0 < number }
-        requires within { number ≤ self.now.count }
         ensures resolves { (h : History) → Has self.now h → Resolves (formulas_on self.now) h Kind.Box number result }
         ensures placed { PlacedIn (formulas_on self.now) result }
     {
-        let first = self.lines[number - 1];
-        if first.inside != number || first.end == 0 {
+        let first = self.record_of(number)?;
+        if first.inside != number || !self.is_open(first.around) {
             return None;
         }
-        if !self.is_open(first.around) {
-            return None;
-        }
-        Some(Cited::Box(first.formula, self.lines[first.end - 1].formula))
+        let last = self.record_of(first.end)?;
+        Some(Cited::Box(first.formula, last.formula))
     }
 
     pub(crate) fn stands_for(&self, kind: Kind, number: usize) -> Option<Cited>
-        requires some { 0 < number }
-        requires within { number ≤ self.now.count }
         ensures resolves { (h : History) → Has self.now h → Resolves (formulas_on self.now) h kind number result }
         ensures placed { PlacedIn (formulas_on self.now) result }
     {
@@ -61,17 +55,12 @@ impl<'p> Page<'p> {
         }
     }
 
-    // The first citation, counted from 1, that names no line.
+    // The place, counted from 0, of the first citation that names no line.
     pub(crate) fn missing(&self, citations: &[usize]) -> Option<usize>
-        ensures within { IfNone result (Numbered self.now.count citations.now) }
-        ensures first { (h : History) → Has self.now h → MatchOption result (NoneMissing h citations.now) (Missing h citations.now) }
+        ensures { result ≡ position (λ number. is_none (record_of self.now.lines.now number)) citations.now }
     {
-        for k in 0..citations.len() {
-            let number = citations[k];
-            if number == 0 || number > self.count {
-                return Some(k + 1);
-            }
-        }
-        None
+        citations
+            .iter()
+            .position(|number| self.record_of(*number).is_none())
     }
 }

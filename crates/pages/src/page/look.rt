@@ -1,38 +1,38 @@
 // What is told of lines.
+ghost use Rattle.std.specs.Prelude.{◌≡◌};
 ghost use Rattle.fitch.specs.History.{History};
-ghost use Rattle.ledger.specs.Telling.{LineTold, LastTop};
+ghost use Rattle.ledger.specs.Telling.{record_of, LineTold, LastTop};
 ghost use Rattle.pages.specs.Pages.{Has, formulas_on};
 
 use crate::page::Page;
 use fitch::refusal::Refusal;
-use ledger::line::LineInfo;
+use ledger::line::{Line, LineInfo};
 
 impl<'p> Page<'p> {
-    // The line of a number, counted from 1.
+    // The record of a line, by its number, counted from 1.
+    pub(crate) fn record_of(&self, number: usize) -> Option<Line>
+        ensures { result ≡ record_of self.now.lines.now number }
+    {
+        self.lines.get(number.checked_sub(1)?).copied()
+    }
+
+    // What is told of a line, by its number, counted from 1. The refusal's place is 0, since nothing is cited.
+    #[tactic(auto, using(ledger::proofs::Informing::line_told))]
     pub fn line(&self, number: usize) -> Result<LineInfo, Refusal>
         ensures { (h : History) → Has self.now h → LineTold (formulas_on self.now) h number result }
     {
-        if number == 0 || number > self.count {
-            return Err(Refusal::NoSuchLine(0));
-        }
-        let line = self.lines[number - 1];
-        Ok(LineInfo {
-            formula: line.formula,
-            reason: line.reason,
-            innermost: line.inside,
-        })
+        self.record_of(number)
+            .map(LineInfo::from)
+            .ok_or(Refusal::NoSuchLine(0))
     }
 
-    // The number of the last line that no box contains, or 0.
-    pub fn last_top(&self) -> usize
-        ensures { LastTop self.now.lines.now self.now.count result }
+    // The number, counted from 1, of the last line that no box contains, if there is one.
+    pub fn last_top(&self) -> Option<usize>
+        ensures { LastTop self.now.lines.now result }
     {
-        let mut found = 0;
-        for k in 0..self.count {
-            if self.lines[k].inside == 0 {
-                found = k + 1;
-            }
-        }
-        found
+        self.lines
+            .iter()
+            .rposition(|line| line.inside == 0)
+            .map(|place| place + 1)
     }
 }

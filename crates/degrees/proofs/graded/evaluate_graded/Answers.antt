@@ -8,9 +8,9 @@ use Rattle.degrees.specs.Chains.{chain}
 use Rattle.degrees.specs.declared.chain.Chain.{Chain}
 use Rattle.degrees.proofs.graded.evaluate_graded.Goals as goal
 
-pub returns-in-Ok : goal.returns-in-Ok
-returns-in-Ok c =
-    let made = c.in-Ok.ensures in
+pub returns : goal.returns
+returns c =
+    let made = c.in_ok-both.ensures in
     record {
       evaluated = λ _.
           subst₂ (λ (x : Chain) (y : Frame). Evaluated (product (chain x.degrees) (frame_means y)) (contents c.args.store.now) c.args.valuation.now.letters c.args.values.now c.evaluate.new.values c.evaluate.result)

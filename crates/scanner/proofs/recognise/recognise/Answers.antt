@@ -1,25 +1,22 @@
 use Rattle.std.proofs.Common.{sym, ◌∙◌, arith}
+use Rattle.std.proofs.lemmas.Result.{err_from_is_err_and}
 use Rattle.grammar.proofs.FirstPlaces.{breaks_none, ends_none, whole_text}
 use Rattle.grammar.proofs.Measures.{signs_joins}
 use Rattle.scanner.proofs.recognise.recognise.Goals as goal
 
-pub returns-in-Err : goal.returns-in-Err
-returns-in-Err c = (c.if-text-gt-MOST_BYTES.false, breaks_none c.args.text.now _ c.in-Err.ensures)
+pub returns-in_err-end : goal.returns-in_err-end
+returns-in_err-end c =
+    let p = err_from_is_err_and c.from_residual.result c.from_residual.ensures.1 in
+    let b = c.in_err-end.ensures in
+    rw (p.1, p.2, b.1) (c.if-text-gt-MOST_BYTES.false, breaks_none c.args.text.now _ b.2)
 
-pub returns-then-scanned-text : goal.returns-then-scanned-text
-returns-then-scanned-text c = (c.if-text-gt-MOST_BYTES.false, ends_none c.args.text.now _ _ _ c.in-Ok.ensures c.if-scanned-text.true)
-
-pub returns-then-scanned-gt-MOST_NESTING : goal.returns-then-scanned-gt-MOST_NESTING
-returns-then-scanned-gt-MOST_NESTING c =
-    let found = c.in-Ok.ensures in (
-      c.if-text-gt-MOST_BYTES.false,
-      (found.formula, whole_text c.args.text.now _ _ _ found c.if-scanned-text.false, omega (arith, found.nested)),
-    )
+pub returns-then-end-text : goal.returns-then-end-text
+returns-then-end-text c = (c.if-text-gt-MOST_BYTES.false, ends_none c.args.text.now _ _ _ c.in_ok-end.ensures c.if-end-text.true)
 
 pub returns : goal.returns
 returns c =
-    let found = c.in-Ok.ensures in
-    let text = whole_text c.args.text.now _ _ _ found c.if-scanned-text.false in
+    let found = c.in_ok-end.ensures in
+    let text = whole_text c.args.text.now _ _ _ found c.if-end-text.false in
     record {
       formula = found.formula;
       readable = record { short = c.if-text-gt-MOST_BYTES.false; text = text; shallow = omega (arith, found.nested) };

@@ -1,13 +1,10 @@
-use Rattle.std.proofs.Common.{◌∷◌, sym, ap, ◌∙◌, ⊎_elim, arith}
+use Rattle.std.proofs.Common.{◌∷◌, sym, refl, ap, ◌∙◌, ⊎_elim}
 use Rattle.std.proofs.lemmas.Result.{err_from_is_err_and}
 use Rattle.grammar.specs.Scanning.{step}
 use Rattle.grammar.specs.Scanning.Awaited.{formula, a_sign, close}
-use Rattle.grammar.specs.declared.symbol.Symbol.TheVariants.{Falsum, Letter, Not, Open, Sign}
-use Rattle.grammar.proofs.Scans.{inside, bounds, found_falsum, found_letter, found_not, found_joined, breaks_here, breaks_not, breaks_first, breaks_sign, breaks_second, breaks_close, no_formula, no_sign, no_close}
+use Rattle.grammar.specs.declared.symbol.Symbol.TheVariants.{Falsum, Letter, Not, Open}
+use Rattle.grammar.proofs.Scans.{inside, found_falsum, found_letter, found_not, found_joined, breaks_here, breaks_not, breaks_first, breaks_sign, breaks_second, breaks_close, no_formula, no_sign, no_close}
 use Rattle.scanner.proofs.scan.+scan.Goals as goal
-
-pub scan-requires : goal.scan-requires
-scan-requires t c = let h = inside c.args.text.now c.args.at Not (sym c.in-Not.ensures) tt in omega (arith, c.decreases)
 
 pub returns-in_err-part-in-Not : goal.returns-in_err-part-in-Not
 returns-in_err-part-in-Not t c =
@@ -15,13 +12,8 @@ returns-in_err-part-in-Not t c =
     let at = c.args.at in
     let e = sym c.in-Not.ensures in
     let p = err_from_is_err_and c.from_residual.result c.from_residual.ensures.1 in
-    rw (p.1, p.2) (breaks_not s at _ (inside s at Not e tt) e c.in_err-part-in-Not.ensures)
-
-pub overflow_add-result-in-Not : goal.overflow_add-result-in-Not
-overflow_add-result-in-Not t c = let b = bounds _ c.in_ok-part-in-Not.ensures in omega arith
-
-pub overflow_add-result-in-Not-2 : goal.overflow_add-result-in-Not-2
-overflow_add-result-in-Not-2 t c = let b = bounds _ c.in_ok-part-in-Not.ensures in omega arith
+    let b = c.in_err-part-in-Not.ensures in
+    rw (p.1, p.2) (b.0, b.1, breaks_not s at _ (inside s at Not e tt) e b.2)
 
 pub returns-in_ok-part-in-Not : goal.returns-in_ok-part-in-Not
 returns-in_ok-part-in-Not t c =
@@ -30,30 +22,25 @@ returns-in_ok-part-in-Not t c =
     let e = sym c.in-Not.ensures in
     found_not s at _ _ _ (inside s at Not e tt) e c.in_ok-part-in-Not.ensures
 
-pub scan-requires-in-Open : goal.scan-requires-in-Open
-scan-requires-in-Open t c = let h = inside c.args.text.now c.args.at Open (sym c.in-Open.ensures) tt in omega (arith, c.decreases)
-
 pub returns-in_err-first-in-Open : goal.returns-in_err-first-in-Open
 returns-in_err-first-in-Open t c =
     let s = c.args.text.now in
     let at = c.args.at in
     let e = sym c.in-Open.ensures in
     let p = err_from_is_err_and c.from_residual-in_err-first-in-Open.result c.from_residual-in_err-first-in-Open.ensures.1 in
-    rw (p.1, p.2) (breaks_first s at (inside s at Open e tt) e _ c.in_err-first-in-Open.ensures)
+    let b = c.in_err-first-in-Open.ensures in
+    rw (p.1, p.2) (b.0, b.1, breaks_first s at (inside s at Open e tt) e _ b.2)
 
 pub returns-in_default-symbol_at : goal.returns-in_default-symbol_at
 returns-in_default-symbol_at t c =
     let s = c.args.text.now in
     let at = c.args.at in
-    let e = sym c.in-Open.ensures in
-    breaks_sign s at (inside s at Open e tt) e c.in_ok-first-in-Open.ensures
-    (λ st. ap (λ y. step y (a_sign ∷ st)) (sym c.symbol_at-in-Open.ensures) ∙ no_sign _ c.in_default-symbol_at.not-Sign st)
-
-pub scan-requires-in-Open-2 : goal.scan-requires-in-Open-2
-scan-requires-in-Open-2 t c =
-    let b = bounds _ c.in_ok-first-in-Open.ensures in
-    let h = inside c.args.text.now c.in_ok-first-in-Open.first.end (Sign c.in-Sign.field-0) (sym c.in-Sign.ensures) tt in
-    omega (arith, c.decreases)
+    let e = sym c.in-Open.ensures in (
+      _,
+      refl,
+      breaks_sign s at (inside s at Open e tt) e c.in_ok-first-in-Open.ensures
+          (λ st. ap (λ y. step y (a_sign ∷ st)) (sym c.symbol_at-in-Open.ensures) ∙ no_sign _ c.in_default-symbol_at.not-Sign st),
+    )
 
 pub returns-in_err-second-in-Open : goal.returns-in_err-second-in-Open
 returns-in_err-second-in-Open t c =
@@ -62,34 +49,20 @@ returns-in_err-second-in-Open t c =
     let e = sym c.in-Open.ensures in
     let e' = sym c.in-Sign.ensures in
     let p = err_from_is_err_and c.from_residual-in_err-second-in-Open.result c.from_residual-in_err-second-in-Open.ensures.1 in
-    rw (p.1, p.2) (breaks_second s at (inside s at Open e tt) e c.in_ok-first-in-Open.ensures _ (inside s _ _ e' tt) e' _ c.in_err-second-in-Open.ensures)
+    let b = c.in_err-second-in-Open.ensures in
+    rw (p.1, p.2) (b.0, b.1, breaks_second s at (inside s at Open e tt) e c.in_ok-first-in-Open.ensures _ (inside s _ _ e' tt) e' _ b.2)
 
 pub returns-in_default-symbol_at-2 : goal.returns-in_default-symbol_at-2
 returns-in_default-symbol_at-2 t c =
     let s = c.args.text.now in
     let at = c.args.at in
     let e = sym c.in-Open.ensures in
-    let e' = sym c.in-Sign.ensures in
-    breaks_close s at (inside s at Open e tt) e c.in_ok-first-in-Open.ensures _ (inside s _ _ e' tt) e' c.in_ok-second-in-Open.ensures
-    (λ st. ap (λ y. step y (close ∷ st)) (sym c.symbol_at-in-Open-2.ensures) ∙ no_close _ c.in_default-symbol_at-2.not-Close st)
-
-pub overflow_add-result-in-Open-2 : goal.overflow_add-result-in-Open-2
-overflow_add-result-in-Open-2 t c =
-    let a = bounds _ c.in_ok-first-in-Open.ensures in
-    let b = bounds _ c.in_ok-second-in-Open.ensures in
-    omega (arith, c.max.ensures)
-
-pub overflow_add-result-in-Open-3 : goal.overflow_add-result-in-Open-3
-overflow_add-result-in-Open-3 t c =
-    let a = bounds _ c.in_ok-first-in-Open.ensures in
-    let b = bounds _ c.in_ok-second-in-Open.ensures in
-    omega arith
-
-pub overflow_add-result-in-Open-4 : goal.overflow_add-result-in-Open-4
-overflow_add-result-in-Open-4 t c =
-    let a = bounds _ c.in_ok-first-in-Open.ensures in
-    let b = bounds _ c.in_ok-second-in-Open.ensures in
-    omega arith
+    let e' = sym c.in-Sign.ensures in (
+      _,
+      refl,
+      breaks_close s at (inside s at Open e tt) e c.in_ok-first-in-Open.ensures _ (inside s _ _ e' tt) e' c.in_ok-second-in-Open.ensures
+          (λ st. ap (λ y. step y (close ∷ st)) (sym c.symbol_at-in-Open-2.ensures) ∙ no_close _ c.in_default-symbol_at-2.not-Close st),
+    )
 
 pub returns-in-Close : goal.returns-in-Close
 returns-in-Close t c =
@@ -109,6 +82,9 @@ returns-in-Falsum t c =
 
 pub returns-in_default : goal.returns-in_default
 returns-in_default t c =
-    let w = c.in_default in
-    breaks_here c.args.text.now c.args.at c.requires
-    (λ st. ap (λ y. step y (formula ∷ st)) (sym c.symbol_at.ensures) ∙ no_formula _ w.not-Falsum w.not-Letter w.not-Not w.not-Open st)
+    let w = c.in_default in (
+      _,
+      refl,
+      breaks_here c.args.text.now c.args.at c.requires
+          (λ st. ap (λ y. step y (formula ∷ st)) (sym c.symbol_at.ensures) ∙ no_formula _ w.not-Falsum w.not-Letter w.not-Not w.not-Open st),
+    )

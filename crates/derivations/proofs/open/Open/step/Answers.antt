@@ -1,43 +1,46 @@
-use Rattle.std.proofs.Common.{refl, arith}
+use Rattle.std.proofs.Common.{ℕ, List, arith}
 use mathlib.Core.Logic.{∥∥₁_map}
-use native.Mathlib.Decide.{dec_lt, dec_le}
-use Rattle.std.proofs.lemmas.List.{length-set, drop-set-lt}
-use Rattle.ledger.proofs.Calling.{add_step}
+use native.Mathlib.Decide.{dec_lt}
+use Rattle.fitch.specs.Checks.{Accepted}
+use Rattle.fitch.specs.History.{History}
+use Rattle.fitch.specs.declared.rule.Rule.{Rule}
 use Rattle.ledger.proofs.Recording.{settled}
-use Rattle.soundness.proofs.Sound.{sound as line_sound}
+use Rattle.derivations.specs.Derived.{Derived, checks_of_step}
+use Rattle.derivations.specs.Sheets.{HasRoom}
+use Rattle.derivations.specs.declared.open.Open.{Open}
+use Rattle.derivations.proofs.Sounding.{derives_sound}
+use Rattle.derivations.proofs.Writing.{stepped, room_left}
 use Rattle.derivations.proofs.open.Open.step.Goals as goal
 
-pub returns-in-Err : goal.returns-in-Err
-returns-in-Err c = record { exact = c.in-Err.ensures; sound = λ h x. line_sound _ h x.written; leaves = record { store = refl; mode = refl; premises = refl; rest = refl }; unchanged = refl }
+-- where the checks are passed, a record is left
+has_room : (o : Open) (f : ℕ) (r : Rule) (is : List ℕ) → ((h : History) → Derived o h → Accepted (checks_of_step o h f r is)) → HasRoom o.sheet
+has_room o f r is accepted = (settled (dec_lt _ _) o.recorded (λ d. (at d.0 d.1).0), settled (dec_lt _ _) o.recorded (λ d. (at d.0 d.1).1))
+  where
+    at : (h : History) → Derived o h → HasRoom o.sheet
+    at h g = room_left g.recorded (accepted h g).1.1.1.1.1.1.0
 
-pub bounds-self-self : goal.bounds-self-self
-bounds-self-self c =
-    settled (dec_lt _ _) c.args.self.now.recorded (λ r. let t = (c.in_default.ensures r.0 r.1).1.1.1.1.1.1.0 in omega (arith, r.1.recorded.counted, t.1))
+pub write-number-requires : goal.write-number-requires
+write-number-requires c = has_room c.args.self.now c.args.formula c.args.rule c.args.citations.now c.in_ok-check.ensures
 
 pub invariant_of-self : goal.invariant_of-self
 invariant_of-self c =
     let o = c.args.self.now in
+    let room = has_room o c.args.formula c.args.rule c.args.citations.now c.in_ok-check.ensures in
     record {
-      small = settled (dec_le _ _) o.recorded (λ r. let t = (c.in_default.ensures r.0 r.1).1.1.1.1.1.1.0 in omega (arith, r.1.recorded.counted, t.0));
       few = o.few;
-      fits = settled (dec_le _ _) o.recorded (λ r. let t = (c.in_default.ensures r.0 r.1).1.1.1.1.1.1.0 in simp length-set (omega (arith, r.1.recorded.counted, t.1)));
       recorded = ∥∥₁_map o.recorded
-          (λ r.
-          let t = c.in_default.ensures r.0 r.1 in
-          let u = t.1.1.1.1.1 in
-          (_, add_step r.1 c.args.formula _ _ t.0 (omega (arith, r.1.recorded.counted, u.1.0.0)) (omega (arith, r.1.recorded.counted, u.1.0.1)) c.padded.ensures c.innermost-inside.ensures c.extend.ensures u.0));
+          (λ r. (let a = c.in_ok-check.ensures r.0 r.1 in (_, stepped o _ c.args.formula _ c.args.rule _ c.args.citations.now r.0 r.1 a.0 room c.padded.ensures c.innermost-inside.ensures (rw c.write-number.ensures.number at c.extend.ensures) a.1.1.1.1.1.0 c.write-number.ensures.writes)));
     }
 
-pub returns : goal.returns
-returns c = record {
-  exact = λ h g.
-      let t = c.in_default.ensures h g in
-      let u = t.1.1.1.1.1 in (
-        t,
-        omega (arith, g.recorded.counted),
-        add_step g c.args.formula _ _ t.0 (omega (arith, g.recorded.counted, u.1.0.0)) (omega (arith, g.recorded.counted, u.1.0.1)) c.padded.ensures c.innermost-inside.ensures c.extend.ensures u.0,
-      );
-  sound = λ h x. line_sound _ h x.written;
-  leaves = record { store = refl; mode = refl; premises = refl; rest = drop-set-lt _ c.args.self.now.lines.now c.args.self.now.count _ (omega arith) };
-  unchanged = tt;
-}
+pub returns-clause-exact : goal.returns-clause-exact
+returns-clause-exact c h g =
+    let o = c.args.self.now in
+    let room = has_room o c.args.formula c.args.rule c.args.citations.now c.in_ok-check.ensures in
+    let a = c.in_ok-check.ensures h g in (
+      a,
+      omega (arith, g.recorded.counted),
+      stepped o _ c.args.formula _ c.args.rule _ c.args.citations.now h g a.0 room c.padded.ensures c.innermost-inside.ensures (rw c.write-number.ensures.number at c.extend.ensures) a.1.1.1.1.1.0 c.write-number.ensures.writes,
+    )
+
+pub returns-clause-sound : goal.returns-clause-sound
+returns-clause-sound c h x = derives_sound x

@@ -1,4 +1,4 @@
-use Rattle.std.proofs.Common.{◌≡◌, ℕ, ◌+◌, ◌-◌, ◌<◌, List, length, get_or, sym, refl, ap, ◌∙◌, subst, arith}
+use Rattle.std.proofs.Common.{◌≡◌, ℕ, ◌+◌, ◌<◌, List, length, get_or, sym, refl, ap, ◌∙◌, subst, arith}
 use Rattle.grammar.specs.Symbols.{symbol}
 use Rattle.grammar.specs.Formula.{Formula}
 use Rattle.grammar.specs.Formula.Formula.{falsum, joined}
@@ -11,12 +11,12 @@ use Rattle.grammar.specs.declared.connective.Connective.{Connective}
 use Rattle.grammar.specs.declared.connective.Connective.TheVariants.{Implies}
 use Rattle.grammar.specs.declared.symbol.Symbol.TheVariants.{Sign}
 use Rattle.grammar.proofs.Shapes.{AtNot, AtOpen, shape, at_letter, at_not, at_open, at_falsum}
-use Rattle.formulas.proofs.Stores.{count_is_used, stay_same, stay_then, same_capacity}
+use Rattle.formulas.proofs.Stores.{count_is_used, same_capacity}
 use Rattle.grammar.proofs.Entries.{falsum_at, letter_enters, falsum_enters, not_fits, not_room, not_enterable, open_fits, open_room, first_enterable, second_enterable, joined_enters, joined_fitting, joined_low, joined_room}
 use Rattle.formulas.proofs.store.Store.+enter.Goals as goal
 use Rattle.formulas.proofs.store.Store.+enter.Goals.{In-Not, In-Open, After-enter-part, After-enter-first, After-enter-second}
-use Rattle.formulas.proofs.store.Store.+enter.Goals.{at-enter-part-requires, at-overflow_cast-part, at-place_of-place-requires, at-returns-in-Not}
-use Rattle.formulas.proofs.store.Store.+enter.Goals.{at-enter-first-requires, at-connective_at-connective-requires, at-overflow_add-first, at-enter-second-requires, at-overflow_cast-first, at-overflow_cast-second, at-overflow_add-result-in-Open, at-place_of-place-requires-in-Open, at-returns-in-Open}
+use Rattle.formulas.proofs.store.Store.+enter.Goals.{at-enter-part-requires, at-overflow_cast-part, at-place_of-place-requires, at-returns-in-Not-clause-enters}
+use Rattle.formulas.proofs.store.Store.+enter.Goals.{at-enter-first-requires, at-unreachable-requires, at-enter-second-requires, at-overflow_cast-first, at-overflow_cast-second, at-overflow_add-result-in-Open, at-place_of-place-requires-in-Open, at-returns-in-Sign-clause-enters}
 
 sign_is : (j k : Connective) → Sign j ≡ Sign k → j ≡ k
 sign_is j k e = cc
@@ -24,30 +24,21 @@ sign_is j k e = cc
 small : (st : Store) (p : ℕ) → p < length (contents st) → p < 4096
 small st p h = omega (arith, count_is_used st, st.most)
 
-pub bounds-text-at : goal.bounds-text-at
-bounds-text-at t c = (at_letter (shape c.requires.stands) (sym c.in-Letter.ensures)).inside
-
-pub returns-in-Letter : goal.returns-in-Letter
-returns-in-Letter t c =
+pub returns-in-Letter-clause-enters : goal.returns-in-Letter-clause-enters
+returns-in-Letter-clause-enters t c =
     let st : Store = c.args.self.now in
-    record {
-      enters = λ f end d.
-          let l = at_letter (shape d) (sym c.in-Letter.ensures) in
-          (sym l.ends, subst (λ g. Enters (contents st) (contents st) g (get_or c.args.text.now c.args.at 0 - 97 + 1)) (sym l.formula) (letter_enters (contents st) st.base _ l.letter));
-      stay = stay_same st;
-    }
+    λ f end d.
+    let l = at_letter (shape d) (sym c.in-Letter.ensures) in
+    (sym l.ends, subst (λ g. Enters (contents st) (contents st) g c.letter_place.result) (sym l.formula) (rw c.letter_place.ensures (letter_enters (contents st) st.base _ l.letter)))
 
-pub returns-in_default : goal.returns-in_default
-returns-in_default t c =
+pub returns-in_default-clause-enters : goal.returns-in_default-clause-enters
+returns-in_default-clause-enters t c =
     let st : Store = c.args.self.now in
     let w = c.in_default in
     let y = c.symbol_at.ensures in
-    record {
-      enters = λ f end d.
-          let l = at_falsum (shape d) (λ e. w.not-Letter (y ∙ e)) (λ e. w.not-Not (y ∙ e)) (λ e. w.not-Open (y ∙ e)) in
-          (sym l.ends, subst (λ g. Enters (contents st) (contents st) g 0) (sym l.formula) (falsum_enters (contents st) st.base));
-      stay = stay_same st;
-    }
+    λ f end d.
+    let l = at_falsum (shape d) (λ e. w.not-Letter (y ∙ e)) (λ e. w.not-Not (y ∙ e)) (λ e. w.not-Open (y ∙ e)) in
+    (sym l.ends, subst (λ g. Enters (contents st) (contents st) g 0) (sym l.formula) (falsum_enters (contents st) st.base))
 
 -- a negation: its part, and what entering it does
 
@@ -78,20 +69,17 @@ place_of-place-requires t c =
       fitting = joined_fitting _ _ (contents st) (contents st) Implies n.part falsum p 0 p a refl (falsum_at (contents st) st.base) (not_fits c.requires n);
     }
 
-pub returns-in-Not : goal.returns-in-Not
-returns-in-Not t c =
+pub returns-in-Not-clause-enters : goal.returns-in-Not-clause-enters
+returns-in-Not-clause-enters t c =
     let st : Store = c.enter-part.new.self in
     let cs = contents c.place_of-place.new.self in
     let p : ℕ = c.enter-part.result.place in
     let r : ℕ = c.place_of-place.result in
     let e = c.place_of-place.ensures in
-    record {
-      enters = λ f end d.
-          let n = at_not (shape d) (sym c.in-Not.ensures) in
-          let a = part_entered t (at-returns-in-Not t c).After-enter-part n in
-          (a.0, subst (λ g. Enters (contents c.args.self.now) cs g r) (sym n.formula) (joined_enters _ _ (contents st) cs Implies n.part falsum p 0 r a.1 refl (falsum_at (contents st) st.base) e.held e.found e.within));
-      stay = stay_then c.enter-part.ensures.stay e.stay;
-    }
+    λ f end d.
+    let n = at_not (shape d) (sym c.in-Not.ensures) in
+    let a = part_entered t (at-returns-in-Not-clause-enters t c).After-enter-part n in
+    (a.0, subst (λ g. Enters (contents c.args.self.now) cs g r) (sym n.formula) (joined_enters _ _ (contents st) cs Implies n.part falsum p 0 r a.1 refl (falsum_at (contents st) st.base) e.held e.found e.within))
 
 -- a joined formula: its parts, and what entering them does
 
@@ -113,15 +101,11 @@ same_connective {s} o e y = sign_is _ _ (sym o.signed ∙ ap (λ i. symbol (get_
 pub enter-first-requires : goal.enter-first-requires
 enter-first-requires t c = let o = opened t (at-enter-first-requires t c).In-Open in (omega (arith, c.decreases, o.inside), first_enterable c.requires o)
 
-pub connective_at-connective-requires : goal.connective_at-connective-requires
-connective_at-connective-requires t c =
-    let o = opened t (at-connective_at-connective-requires t c).In-Open in
-    (o.connective, ap (λ i. symbol (get_or c.args.text.now i 0)) (first_entered t c o).0 ∙ o.signed)
-
-pub overflow_add-first : goal.overflow_add-first
-overflow_add-first t c =
-    let o = opened t (at-overflow_add-first t c).In-Open in
-    omega (arith, (first_entered t (at-overflow_add-first t c).After-enter-first o).0, o.mid_inside)
+pub unreachable-requires : goal.unreachable-requires
+unreachable-requires t c =
+    let o = opened t (at-unreachable-requires t c).In-Open in
+    let there = first_entered t (at-unreachable-requires t c).After-enter-first o in
+    c.in_default-symbol_at.not-Sign o.connective (c.symbol_at-in-Open.ensures ∙ ap (λ i. symbol (get_or c.args.text.now i 0)) there.0 ∙ o.signed)
 
 pub enter-second-requires : goal.enter-second-requires
 enter-second-requires t c =
@@ -154,29 +138,26 @@ place_of-place-requires-in-Open t c =
     let o = opened t (at-place_of-place-requires-in-Open t c).In-Open in
     let a = first_entered t (at-place_of-place-requires-in-Open t c).After-enter-first o in
     let b = second_entered t (at-place_of-place-requires-in-Open t c).After-enter-second o a.0 in
-    let k = same_connective o a.0 c.connective_at-connective.ensures in
+    let k = same_connective o a.0 (sym c.in-Sign.ensures) in
     let p : ℕ = c.enter-first.result.place in
     let q : ℕ = c.enter-second.result.place in
     record {
-      room = joined_room _ _ (contents st) (contents st) c.connective_at-connective.result _ _ p q p a.1 b.1.held b.1.found _ (omega (arith, same_capacity c.enter-second.ensures.stay, same_capacity c.enter-first.ensures.stay, open_room c.requires o));
-      below = joined_low _ _ (contents st) (contents st) c.connective_at-connective.result _ _ p q p a.1 b.1.held b.1.found b.1.within;
-      fitting = joined_fitting _ _ (contents st) (contents st) c.connective_at-connective.result _ _ p q p a.1 b.1.held b.1.found (subst (λ j. Fitting (joined j o.first o.second)) k (open_fits c.requires o));
+      room = joined_room _ _ (contents st) (contents st) c.in-Sign.connective _ _ p q p a.1 b.1.held b.1.found _ (omega (arith, same_capacity c.enter-second.ensures.stay, same_capacity c.enter-first.ensures.stay, open_room c.requires o));
+      below = joined_low _ _ (contents st) (contents st) c.in-Sign.connective _ _ p q p a.1 b.1.held b.1.found b.1.within;
+      fitting = joined_fitting _ _ (contents st) (contents st) c.in-Sign.connective _ _ p q p a.1 b.1.held b.1.found (subst (λ j. Fitting (joined j o.first o.second)) k (open_fits c.requires o));
     }
 
-pub returns-in-Open : goal.returns-in-Open
-returns-in-Open t c =
+pub returns-in-Sign-clause-enters : goal.returns-in-Sign-clause-enters
+returns-in-Sign-clause-enters t c =
     let st : Store = c.enter-second.new.self in
     let cs = contents c.place_of-place-in-Open.new.self in
     let p : ℕ = c.enter-first.result.place in
     let q : ℕ = c.enter-second.result.place in
     let r : ℕ = c.place_of-place-in-Open.result in
     let e = c.place_of-place-in-Open.ensures in
-    record {
-      enters = λ f end d.
-          let o = at_open (shape d) (sym c.in-Open.ensures) in
-          let a = first_entered t (at-returns-in-Open t c).After-enter-first o in
-          let b = second_entered t (at-returns-in-Open t c).After-enter-second o a.0 in
-          let k = same_connective o a.0 c.connective_at-connective.ensures in
-          (omega (arith, b.0, o.ends), subst (λ g. Enters (contents c.args.self.now) cs g r) (ap (λ j. joined j o.first o.second) (sym k) ∙ sym o.formula) (joined_enters _ _ (contents st) cs _ _ _ p q r a.1 b.1.held b.1.found e.held e.found e.within));
-      stay = stay_then c.enter-first.ensures.stay (stay_then c.enter-second.ensures.stay e.stay);
-    }
+    λ f end d.
+    let o = at_open (shape d) (sym c.in-Open.ensures) in
+    let a = first_entered t (at-returns-in-Sign-clause-enters t c).After-enter-first o in
+    let b = second_entered t (at-returns-in-Sign-clause-enters t c).After-enter-second o a.0 in
+    let k = same_connective o a.0 (sym c.in-Sign.ensures) in
+    (omega (arith, b.0, o.ends), subst (λ g. Enters (contents c.args.self.now) cs g r) (ap (λ j. joined j o.first o.second) (sym k) ∙ sym o.formula) (joined_enters _ _ (contents st) cs _ _ _ p q r a.1 b.1.held b.1.found e.held e.found e.within))

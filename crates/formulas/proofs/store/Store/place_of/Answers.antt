@@ -5,22 +5,20 @@ use Rattle.grammar.specs.declared.node.Node.TheVariants.{Falsum}
 use Rattle.grammar.proofs.Records.{found_place, found_contents, more_contents, more_place, more_long, more_is_good}
 use Rattle.formulas.specs.Stores.{records}
 use Rattle.formulas.specs.declared.store.Store.{Store}
-use Rattle.formulas.proofs.Stores.{within, good, count_is_used, stay_same}
+use Rattle.formulas.proofs.Stores.{within, good, count_is_used}
 use Rattle.formulas.proofs.store.Store.place_of.Goals as goal
 
-pub returns-in-Some : goal.returns-in-Some
-returns-in-Some c =
+pub returns-in-Some-clause-held : goal.returns-in-Some-clause-held
+returns-in-Some-clause-held c =
     let s : Store = c.args.self.now in
     let f = c.in-Some.ensures in
-    record {
-      held = found_contents (records s) s.used (within s) (good s) c.args.node c.in-Some.place f.0 f.1;
-      found = found_place (records s) s.used (within s) (good s) c.args.node c.in-Some.place f.0 f.1;
-      within = omega (arith, count_is_used s, f.0);
-      stay = stay_same s;
-    }
+    found_contents (records s) s.used (within s) (good s) c.args.node c.in-Some.place f.0 f.1
 
-pub index_mut-requires : goal.index_mut-requires
-index_mut-requires c = let s : Store = c.args.self.now in omega (arith, count_is_used s, c.requires.room, s.nodes.ok.0)
+pub returns-in-Some-clause-found : goal.returns-in-Some-clause-found
+returns-in-Some-clause-found c =
+    let s : Store = c.args.self.now in
+    let f = c.in-Some.ensures in
+    found_place (records s) s.used (within s) (good s) c.args.node c.in-Some.place f.0 f.1
 
 pub invariant_of-self : goal.invariant_of-self
 invariant_of-self c =

@@ -1,34 +1,19 @@
-use Rattle.std.proofs.Common.{◌≡◌, ◌<◌, take, sym, refl, ap, ◌∙◌, subst, arith}
+use Rattle.std.proofs.Common.{◌≡◌, ◌<◌, take, sym, ap, ◌∙◌, subst, arith}
 use Rattle.std.proofs.lemmas.List.{take_at}
 use Rattle.grammar.specs.Writing.{text_at, ReadsBack}
 use Rattle.grammar.proofs.Readings.{reads_back}
+use Rattle.formulas.specs.Spelled.{text_of}
 use Rattle.formulas.specs.Stores.{contents, count}
 use Rattle.formulas.specs.declared.store.Store.{Store}
-use Rattle.formulas.proofs.Stores.{count_is_used}
 use Rattle.formulas.proofs.store.Store.write.Goals as goal
 
-pub returns-then-place-self : goal.returns-then-place-self
-returns-then-place-self c = record { written = (omega (arith, count_is_used c.args.self.now), refl); back = tt }
-
-pub text_len-requires : goal.text_len-requires
-text_len-requires c = omega (arith, count_is_used c.args.self.now)
-
-pub returns-then-buffer-text_len : goal.returns-then-buffer-text_len
-returns-then-buffer-text_len c =
-    record { written = ((omega (arith, count_is_used c.args.self.now), omega (arith, c.text_len.ensures)), refl); back = tt }
-
-pub write_at-requires : goal.write_at-requires
-write_at-requires c = record { stored = omega (arith, count_is_used c.args.self.now); room = omega (arith, c.text_len.ensures) }
-
-pub returns : goal.returns
-returns c =
+pub returns-clause-back : goal.returns-clause-back
+returns-clause-back c =
     let s : Store = c.args.self.now in
-    let place = c.args.place in
-    let stored : place < count s = omega (arith, count_is_used s) in
+    let f = c.in_ok-formula.formula in
+    let here = c.in_ok-formula.ensures in
     let w = c.write_at.ensures in
-    let front : take c.write_at.result c.write_at.new.buffer ≡ text_at (contents s) place =
-    ap (take c.write_at.result) w.wrote ∙ take_at (text_at (contents s) place) _ _ (omega (arith, w.ends)) in
-    record {
-      written = (stored, omega (arith, w.ends), omega (arith, w.ends, c.text_len.ensures), w.wrote);
-      back = subst (ReadsBack (contents s) place) (sym front) (reads_back (contents s) place (s.fitting place stored));
-    }
+    let front : take c.write_at.result c.write_at.new.buffer ≡ text_of f = ap (take c.write_at.result) w.wrote ∙ take_at (text_of f) _ _ (omega (arith, w.ends)) in
+    let there : text_of f ≡ text_at (contents s) c.args.place = λ t. text_at (contents (here.0 t)) (here.1 t) in
+    let held = subst (λ p. p < count s) here.1 (subst (λ st. f.place < count st) here.0 f.held) in
+    subst (ReadsBack (contents s) c.args.place) (sym (front ∙ there)) (reads_back (contents s) c.args.place (s.fitting c.args.place held))

@@ -1,12 +1,9 @@
-use Rattle.std.proofs.Common.{◌≡◌, ◌^◌, ◌<◌, cond, get_or, sym, refl, ap, ◌∙◌, arith}
+use Rattle.std.proofs.Common.{◌≡◌, ◌^◌, ◌<◌, cond, get_or, sym, ap, ◌∙◌, arith}
 use lib.Bits.{bit_or, or_zero_r}
 use Rattle.std.proofs.lemmas.Nat.{one_shl}
 use Rattle.heyting.proofs.Sets.{collect_more, arrow_row}
 use Rattle.frames.proofs.frame.Frame.implication.Goals as goal
 use Rattle.frames.proofs.frame.Frame.implication.Goals.{then-inside, else-inside}
-
-pub loop-u-init : goal.loop-u-init
-loop-u-init c = refl
 
 pub loop-u-preserved : goal.loop-u-preserved
 loop-u-preserved c =
@@ -20,9 +17,4 @@ loop-u-preserved c =
       | then-inside w ↦ w.worlds-is ∙ ap (bit_or c.loop-u.worlds) (one_shl u 32 small ∙ rw w.if-inside.true)
       | else-inside w ↦ w.worlds-is ∙ sym (or_zero_r c.loop-u.worlds) ∙ rw w.if-inside.false
     ] in
-    collect_more _ u c.if-inside.worlds (rw (c.loop-u.invariant, c.inside.ensures, row) at next)
-
-pub returns : goal.returns
-returns c =
-    let last : c.loop-u.u ≡ c.args.self.now.worlds = omega arith in
-    rw last at c.loop-u.invariant
+    collect_more _ u c.if-inside.worlds (rw (c.loop-u.invariant, c.inside.ensures, c.above.ensures, row) at next)

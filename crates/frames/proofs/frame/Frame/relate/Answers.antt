@@ -1,4 +1,4 @@
-use Rattle.std.proofs.Common.{◌≡◌, ℕ, ◌<◌, get_or, refl, arith}
+use Rattle.std.proofs.Common.{◌≡◌, ℕ, ◌<◌, get_or, arith}
 use Rattle.heyting.specs.Tables.{table}
 use Rattle.heyting.proofs.Closures.{grown, grown_above, grown_lt, related_ordered}
 use Rattle.frames.proofs.frame.Frame.relate.Goals as goal
@@ -8,17 +8,16 @@ invariant_of-self c =
     let f = c.args.self.now in
     let u = c.args.u in
     let v = c.args.v in
-    let up = c.loop-w.up in
-    let rows : (k : ℕ) → k < f.worlds → get_or up k 0 ≡ grown f.up u v k = λ k h. c.loop-w.invariant.1 k (omega arith) in
+    let up = c.loop-row.row-items in
+    let rows : (k : ℕ) → k < f.worlds → get_or up k 0 ≡ grown f.up u v k = λ k h. c.loop-row.invariant.1 k (omega (arith, f.most)) in
     record {
       least = f.least;
       most = f.most;
-      within = λ k h. rw (rows k h) (grown_lt f.worlds f.up u v k f.within c.requires.1 h);
-      ordered = related_ordered f.worlds (table f.up) f.ordered u v c.requires.0 c.requires.1 (table up) (grown_above f.worlds f.up up u v rows);
+      within = λ k h. rw (rows k h) (grown_lt f.worlds f.up u v k f.within c.requires.second h);
+      ordered = related_ordered f.worlds (table f.up) f.ordered u v c.requires.first c.requires.second (table up) (grown_above f.worlds f.up up u v rows);
     }
 
-pub returns : goal.returns
-returns c = record {
-  worlds = refl;
-  above = grown_above c.args.self.now.worlds c.args.self.now.up c.loop-w.up c.args.u c.args.v (λ k h. c.loop-w.invariant.1 k (omega arith));
-}
+pub returns-clause-above : goal.returns-clause-above
+returns-clause-above c =
+    let f = c.args.self.now in
+    grown_above f.worlds f.up c.loop-row.row-items c.args.u c.args.v (λ k h. c.loop-row.invariant.1 k (omega (arith, f.most)))

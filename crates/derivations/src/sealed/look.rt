@@ -1,0 +1,17 @@
+// The lines of the derivation, to be read.
+ghost use Rattle.fitch.specs.History.{History};
+ghost use Rattle.ledger.specs.Telling.{LineTold};
+ghost use Rattle.derivations.specs.Finished.{Finished, formulas_by};
+
+use crate::sealed::Sealed;
+use fitch::refusal::Refusal;
+use ledger::line::LineInfo;
+
+impl<'s, 'l> Sealed<'s, 'l> {
+    // The line of a number, counted from 1. Each state has its own, since each speaks of the histories of its own type.
+    pub fn line(&self, number: usize) -> Result<LineInfo, Refusal>
+        ensures { (h : History) → Finished self.now h → LineTold (formulas_by self.now) h number result }
+    {
+        self.derivation.line(number)
+    }
+}

@@ -1,4 +1,0 @@
-use Rattle.formulas.proofs.store.Store.+text_len.Given as goal
-
-abbrev pub decreases-text_len : goal.decreases-text_len
-decreases-text_len l = l.place

@@ -1,0 +1,3 @@
+// A limit of algebras.
+
+pub const MOST_SPAN: u32 = 65536;
