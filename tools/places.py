@@ -13,7 +13,7 @@ import sys
 PATTERNS = [
     ("1 a number for a refusal", r"-> Result<(?:\[[^\]]*\]|[^<>{};\[\]])+, (?:usize|u8|u16|u32)>"),
     ("1 a refusal passed on by hand", r"Err\(\w+\) => (?:return )?Err\(|if let Err\((?:\w+)\) = [^{]*\{\s*return Err"),
-    ("1 a case that cannot come, in a match", r"=> unreachable\(\)|else \{\s*unreachable\(\)"),
+    ("1 a case that cannot come, in a match", r"=> unreachable!?\(\)|else \{\s*unreachable!?\(\)"),
     ("1 an Option or Result taken apart for a bool or a unit", r"None => false|if let Some\(_\)|Err\(NotMade \{ \.\. \}\) => Ok\(\(\)\)|is_err\(\)"),
     ("1 a bool told beside a change", r"fn \w+\(&mut self[^{]*?-> bool"),
     ("1 0 for none", r"//[^\n]*\b(?:or|are|and|with|place,) 0\b|found = 0;"),

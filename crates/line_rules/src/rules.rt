@@ -40,7 +40,7 @@ pub fn takes(store: &Store, formula: usize, side: Side, a: Cited) -> bool
     parts(store, line, Connective::And).is_some_and(|conjuncts| side.part(conjuncts) == formula)
 }
 
-// `|1` and `|2`: from the disjunct on a side.
+// `|1` and `|2`: from the disjunct on a side. Not one with `takes`, since here it is the new formula that is taken apart.
 pub fn widens(store: &Store, formula: usize, side: Side, a: Cited) -> bool
     ensures { Decides result (Gives (contents store.now) formula (widening side) (a ∷ [])) }
 {

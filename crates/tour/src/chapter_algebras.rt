@@ -10,6 +10,8 @@ use std::io;
 use weighing::evaluate::evaluate;
 use weighing::valuation::Valuation;
 
+const RECORDS: usize = 64;
+
 // A document is received (0), catalogued (1), reviewed (2) and released (3); a review may reopen the catalogue.
 const STAGES: u32 = 4;
 
@@ -37,7 +39,7 @@ pub(crate) fn tell(rt: &HostRuntime) -> anyhow::Result<()> {
 
 fn tell_values(rt: &HostRuntime, frame: &Frame) -> anyhow::Result<()> {
     rt.println("\nClauses are evaluated, with p = 14 (from stage 1 on) and q = 8 (stage 3):")?;
-    match Store::new(vec![in rt.alloc(); Node::Falsum; 64]?) {
+    match Store::new(vec![in rt.alloc(); Node::Falsum; RECORDS]?) {
         Ok(store) => tell_clauses(rt, frame, store)?,
         Err(not_made) => println!(rt; "{}", Refused(not_made.refusal))?,
     }
@@ -70,7 +72,7 @@ fn tell_value(
     clause: &str,
     place: usize,
 ) -> anyhow::Result<()> {
-    let mut values = [0; 64];
+    let mut values = [0; RECORDS];
     print!(rt; "  value '{clause}': ")?;
     match evaluate(store, frame, valuation, &mut values) {
         Ok(()) => match values.get(place) {

@@ -5,6 +5,7 @@ use formulas::store::make::NotMade;
 use grammar::node::Node;
 use std::io;
 
+// No stored formula has a longer text.
 const LONGEST_TEXT: usize = 1024;
 
 pub(crate) fn tell(rt: &HostRuntime) -> anyhow::Result<()> {

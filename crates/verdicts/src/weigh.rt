@@ -27,7 +27,8 @@ fn is_stored(sequent: &Sequent, store: &Store) -> bool
     all_below(sequent.premises(), count) && sequent.conclusion < count
 }
 
-// The meet of the values at places, in their order: a loop, as the meet is defined, from the top on.
+// The meet of the values at places, in their order, from the top on.
+// By a `for`: a closure for `fold` would have to require that it is given members, and to ensure that it gives one.
 fn meet_of_places<A: Algebra>(algebra: &A, values: &[u32], places: &[usize]) -> u32
     requires { Valued (A.Algebra.means algebra.now) values.now places.now }
     ensures meet { result ≡ meet_at (A.Algebra.means algebra.now) values.now places.now }

@@ -36,7 +36,7 @@ fn worth_of<A: Algebra>(algebra: &A, valuation: &Valuation, values: &[u32], node
 }
 
 // Writes the value of each stored formula at its place in the buffer, and leaves the rest of the buffer.
-// The algebra and the valuation stay apart: a struct of both would be made for one call and taken apart in it.
+// The four stay apart: a struct of some of them would be made for one call and taken apart in it.
 pub fn evaluate<A: Algebra>(
     store: &Store,
     algebra: &A,

@@ -22,6 +22,7 @@ impl<'s, 'l> Open<'s, 'l> {
         ensures unchanged { OnErr result (self.new ≡ self.old) }
     {
         self.sheet.stored(formula)?;
+        // Asked before anything is written; `open`, which refuses the same, comes last.
         if !self.boxes.has_room() {
             return Err(Refusal::ManyBoxes);
         }
@@ -35,7 +36,6 @@ impl<'s, 'l> Open<'s, 'l> {
             around,
             ..BLANK
         });
-        // There is room for the box, so this refuses nothing.
         self.boxes.open(number)?;
         Ok(number)
     }

@@ -13,7 +13,7 @@ use fitch::refusal::Refusal;
 use ledger::sequent::{MOST_PREMISES, Sequent};
 
 impl<'s, 'l> Sealed<'s, 'l> {
-    // The places of the premises, and 0 behind them.
+    // The places of the premises, and 0 behind them, as a sequent keeps them, which takes no heap.
     fn premise_places(&self) -> [usize; MOST_PREMISES]
         ensures { result ≡ places_of (take self.now.derivation.premises self.now.derivation.sheet.lines.now) }
     {

@@ -46,6 +46,7 @@ impl Store {
             }
             Symbol::Open => {
                 let first = self.enter(text, at + 1);
+                // A sign stands there, since the text can be entered.
                 let Symbol::Sign(connective) = symbol_at(text, first.end) else {
                     unreachable!()
                 };

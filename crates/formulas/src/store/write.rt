@@ -64,7 +64,7 @@ impl<'a> Stored<'a> {
         }
     }
 
-    // Writes the text from a place of the buffer on, and answers where it ends.
+    // Writes the text from a place of the buffer on, and answers where it ends, which is where the next part begins.
     fn write_at(self, buffer: &mut [u8], at: usize) -> usize
         requires { at + length (text_of self) ≤ length buffer.old }
         ensures ends { result ≡ at + length (text_of self.entry) }

@@ -28,6 +28,7 @@ impl Frame {
         ensures worlds { self.new.worlds ≡ self.old.worlds }
         ensures above { (w x : ℕ) → w < self.old.worlds → table self.new.up w x ≡ related (table self.old.up) u v w x }
     {
+        // In a copy, since the frame's ghost fields hold of the whole table alone.
         let mut up = self.up;
         let above = up[v as usize];
         for row in &mut up {

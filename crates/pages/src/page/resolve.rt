@@ -21,7 +21,7 @@ impl<'p> Page<'p> {
     {
         // As many places as a rule cites at most, since nothing here has a heap; how many are used, the citations say.
         let mut cited = [Cited::Line(0); MOST_CITATIONS];
-        // By place, since the first that fails is told by its number.
+        // The kinds by place, which is counted anyway, since the first that fails is told by its number.
         let kinds = rule.kinds();
         for (place, number) in citations.iter().enumerate() {
             cited[place] = self
