@@ -19,9 +19,6 @@ has_room o f r is accepted = (settled (dec_lt _ _) o.recorded (λ d. (at d.0 d.1
     at : (h : History) → Derived o h → HasRoom o.sheet
     at h g = room_left g.recorded (accepted h g).1.1.1.1.1.1.0
 
-pub write-number-requires : goal.write-number-requires
-write-number-requires c = has_room c.args.self.now c.args.formula c.args.rule c.args.citations.now c.in_ok-check.ensures
-
 pub invariant_of-self : goal.invariant_of-self
 invariant_of-self c =
     let o = c.args.self.now in
