@@ -1,5 +1,5 @@
 -- What the sheet keeps, and what holds after a record is written.
-use Rattle.std.proofs.Common.{◌≡◌, ℕ, ◌+◌, ◌-◌, ◌<◌, ◌≤◌, ◌∷◌, List, length, get_or, drop, set, sym, ap, ◌∙◌, subst, arith}
+use Rattle.std.proofs.Common.{◌≡◌, ℕ, ◌+◌, ◌-◌, ◌<◌, ◌≤◌, ◌∷◌, List, length, drop, set, sym, ap, ◌∙◌, subst, arith}
 use mathlib.Core.Logic.{∥∥₁_map}
 use native.Mathlib.Decide.{dec_lt, dec_le}
 use Rattle.std.proofs.lemmas.List.{drop-set-lt}
@@ -12,7 +12,7 @@ use Rattle.fitch.specs.Records.{Reach, moved, padded, top_first}
 use Rattle.fitch.specs.declared.mode.Mode.{Mode}
 use Rattle.fitch.specs.declared.rule.Reason.TheVariants.{Assumption, Step}
 use Rattle.fitch.specs.declared.rule.Rule.{Rule}
-use Rattle.ledger.specs.Recorded.{no_line, ended_at, Recorded, Gathers, Derives}
+use Rattle.ledger.specs.Recorded.{no_line, Recorded, Gathers, Derives}
 use Rattle.ledger.specs.Stack.{reach, fresh_box}
 use Rattle.ledger.specs.declared.line.Line.{Line}
 use Rattle.ledger.specs.declared.open_box.OpenBox.{OpenBox}
@@ -22,7 +22,7 @@ use Rattle.ledger.proofs.Recording.{settled}
 use Rattle.boxes.specs.Stack.{stack}
 use Rattle.derivations.specs.Gathered.{Gathered}
 use Rattle.derivations.specs.Derived.{Derived}
-use Rattle.derivations.specs.Sheets.{formulas_of, formula_of, HasRoom, Leaves, Writes, EndsBox}
+use Rattle.derivations.specs.Sheets.{formulas_of, formula_of, HasRoom, Leaves, Becomes, Writes, EndsBox}
 use Rattle.derivations.specs.declared.gathering.Gathering.{Gathering}
 use Rattle.derivations.specs.declared.open.Open.{Open}
 use Rattle.derivations.specs.declared.sheet.Sheet.{Sheet}
@@ -34,37 +34,27 @@ recorded_gathering g = ∥∥₁_map g.recorded (λ r. (r.0, r.1.recorded))
 pub recorded_open : (o : Open) → ∥ ((h : History) × Recorded (formulas_of o.sheet) o.sheet.lines.now o.sheet.count h) ∥₁
 recorded_open o = ∥∥₁_map o.recorded (λ r. (r.0, r.1.recorded))
 
--- what holds of the records with the line holds of the sheet afterwards
-pub after_write : {s after : Sheet} {line : Line} → Writes s line after → (Q : Mode → List Formula → List Line → ℕ → Type 0)
-    → Q s.mode (formulas_of s) (set s.lines.now s.count line) (s.count + 1) → Q after.mode (formulas_of after) after.lines.now after.count
-after_write {s} {after} {line} w Q q =
+-- what holds of the other records holds of the sheet afterwards
+pub afterwards : {s after : Sheet} {es : List Line} {n : ℕ} → Becomes s es n after → (Q : Mode → List Formula → List Line → ℕ → Type 0)
+    → Q s.mode (formulas_of s) es n → Q after.mode (formulas_of after) after.lines.now after.count
+afterwards {s} {after} {es} {n} w Q q =
     subst (λ m. Q m (formulas_of after) after.lines.now after.count) (sym w.mode)
     (subst (λ t. Q s.mode (contents t.now) after.lines.now after.count) (sym w.store)
-    (subst (λ es. Q s.mode (formulas_of s) es after.count) (sym w.lines)
-    (subst (λ n. Q s.mode (formulas_of s) (set s.lines.now s.count line) n) (sym w.count) q)))
+    (subst (λ xs. Q s.mode (formulas_of s) xs after.count) (sym w.lines) (subst (λ k. Q s.mode (formulas_of s) es k) (sym w.count) q)))
 
-pub after_end : {s after : Sheet} {closed : OpenBox} → EndsBox s closed after → (Q : Mode → List Formula → List Line → ℕ → Type 0)
-    → Q s.mode (formulas_of s) (set s.lines.now (closed.first - 1) (ended_at (get_or s.lines.now (closed.first - 1) no_line) closed.end)) s.count
-    → Q after.mode (formulas_of after) after.lines.now after.count
-after_end {s} {after} {closed} w Q q =
-    subst (λ m. Q m (formulas_of after) after.lines.now after.count) (sym w.mode)
-    (subst (λ t. Q s.mode (contents t.now) after.lines.now after.count) (sym w.store)
-    (subst (λ es. Q s.mode (formulas_of s) es after.count) (sym w.lines)
-    (subst (λ n. Q s.mode (formulas_of s) (set s.lines.now (closed.first - 1) (ended_at (get_or s.lines.now (closed.first - 1) no_line) closed.end)) n) (sym w.count) q)))
+-- a record that is written below the number of lines leaves what lies past them
+leaves : (s after : Sheet) (i n : ℕ) (line : Line) → i < n → Becomes s (set s.lines.now i line) n after → Leaves s after
+leaves s after i n line below w = record {
+  store = w.store;
+  mode = w.mode;
+  rest = ap (λ es. drop after.count es) w.lines ∙ drop-set-lt after.count s.lines.now i line (omega (arith, w.count));
+}
 
 pub write_leaves : (s after : Sheet) (line : Line) → Writes s line after → Leaves s after
-write_leaves s after line w = record {
-  store = w.store;
-  mode = w.mode;
-  rest = ap (λ es. drop after.count es) w.lines ∙ drop-set-lt after.count s.lines.now s.count line (omega (arith, w.count));
-}
+write_leaves s after line w = leaves s after s.count (s.count + 1) line (omega arith) w
 
 pub end_leaves : (s after : Sheet) (closed : OpenBox) → 0 < closed.first → closed.first ≤ s.count → EndsBox s closed after → Leaves s after
-end_leaves s after closed some within w = record {
-  store = w.store;
-  mode = w.mode;
-  rest = ap (λ es. drop after.count es) w.lines ∙ drop-set-lt after.count s.lines.now (closed.first - 1) _ (omega (arith, w.count));
-}
+end_leaves s after closed some within w = leaves s after (closed.first - 1) s.count _ (omega arith) w
 
 -- the premises are lines
 pub premises_in : (o : Open) → o.premises ≤ length o.sheet.lines.now
@@ -88,7 +78,7 @@ module _ {fs : List Formula} {es : List Line} {n slice : ℕ} {h : History} (g :
 -- a premise is written
 pub premised : (g : Gathering) (after : Sheet) (f : ℕ) (h : History) → Gathered g h → f < length (formulas_of g.sheet) → g.sheet.count < most_premises → HasRoom g.sheet
     → Writes g.sheet (record no_line { formula = f }) after → Gathers after.mode (formulas_of after) after.lines.now after.count (premise (formula_of g.sheet f) ∷ h)
-premised g after f h x stored few room w = after_write w (λ mode fs es n. Gathers mode fs es n (premise (formula_of g.sheet f) ∷ h)) (gather x f stored few room.1)
+premised g after f h x stored few room w = afterwards w (λ mode fs es n. Gathers mode fs es n (premise (formula_of g.sheet f) ∷ h)) (gather x f stored few room.1)
 
 -- a box is opened with an assumption
 pub assumed : (o : Open) {us : List Reach} (after : Sheet) (f around : ℕ) (h : History) → Derived o h → f < length (formulas_of o.sheet) → length (stack o.boxes) < most_boxes → HasRoom o.sheet
@@ -96,7 +86,7 @@ pub assumed : (o : Open) {us : List Reach} (after : Sheet) (f around : ℕ) (h :
     → Writes o.sheet (record { formula = f; reason = Assumption; inside = o.sheet.count + 1; around = around; end = 0 }) after
     → Derives after.mode (formulas_of after) after.lines.now after.count o.premises us (assume (formula_of o.sheet f) ∷ h)
 assumed o {us} after f around h x stored few room a b w =
-    after_write w (λ mode fs es n. Derives mode fs es n o.premises us (assume (formula_of o.sheet f) ∷ h)) (add_box x f around stored few room.0 room.1 a b)
+    afterwards w (λ mode fs es n. Derives mode fs es n o.premises us (assume (formula_of o.sheet f) ∷ h)) (add_box x f around stored few room.0 room.1 a b)
 
 -- a line is written by a rule
 pub stepped : (o : Open) {us : List Reach} (after : Sheet) (f inside : ℕ) (r : Rule) (cited is : List ℕ) (h : History) → Derived o h → f < length (formulas_of o.sheet) → HasRoom o.sheet
@@ -104,9 +94,9 @@ pub stepped : (o : Open) {us : List Reach} (after : Sheet) (f inside : ℕ) (r :
     → Writes o.sheet (record { formula = f; reason = Step r cited; inside = inside; around = 0; end = 0 }) after
     → Derives after.mode (formulas_of after) after.lines.now after.count o.premises us (step (formula_of o.sheet f) r is ∷ h)
 stepped o {us} after f inside r cited is h x stored room pad i b permits w =
-    after_write w (λ mode fs es n. Derives mode fs es n o.premises us (step (formula_of o.sheet f) r is ∷ h)) (add_step x f inside cited stored room.0 room.1 pad i b permits)
+    afterwards w (λ mode fs es n. Derives mode fs es n o.premises us (step (formula_of o.sheet f) r is ∷ h)) (add_step x f inside cited stored room.0 room.1 pad i b permits)
 
 -- the innermost box is closed
 pub closed : (o : Open) {us : List Reach} (after : Sheet) (t : OpenBox) (h : History) → Derived o h → stack o.boxes ≡ reach t ∷ outer (stack o.boxes) → us ≡ outer (stack o.boxes)
     → EndsBox o.sheet t after → Derives after.mode (formulas_of after) after.lines.now after.count o.premises us (close ∷ h)
-closed o {us} after t h x e b w = after_end w (λ mode fs es n. Derives mode fs es n o.premises us (close ∷ h)) (end_box x (reach t) o.sheet.fits e b)
+closed o {us} after t h x e b w = afterwards w (λ mode fs es n. Derives mode fs es n o.premises us (close ∷ h)) (end_box x (reach t) o.sheet.fits e b)

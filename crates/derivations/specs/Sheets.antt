@@ -31,16 +31,18 @@ pub record Leaves (s after : Sheet) : Type 0 where
   pub mode : after.mode ≡ s.mode
   pub rest : drop after.count after.lines.now ≡ drop after.count s.lines.now
 
--- a line is written at the next number
-pub record Writes (s : Sheet) (line : Line) (after : Sheet) : Type 0 where
+-- the sheet with other records, and another number of lines
+pub record Becomes (s : Sheet) (es : List Line) (n : ℕ) (after : Sheet) : Type 0 where
   pub store : after.store ≡ s.store
   pub mode : after.mode ≡ s.mode
-  pub count : after.count ≡ s.count + 1
-  pub lines : after.lines.now ≡ slice_set s.lines.now s.count line
+  pub count : after.count ≡ n
+  pub lines : after.lines.now ≡ es
+
+-- a line is written at the next number
+abbrev pub Writes : Sheet → Line → Sheet → Type 0
+Writes s line after = Becomes s (slice_set s.lines.now s.count line) (s.count + 1) after
 
 -- the end of a box is put into its first line's record
-pub record EndsBox (s : Sheet) (closed : OpenBox) (after : Sheet) : Type 0 where
-  pub store : after.store ≡ s.store
-  pub mode : after.mode ≡ s.mode
-  pub count : after.count ≡ s.count
-  pub lines : after.lines.now ≡ slice_set s.lines.now (closed.first - 1) (ended_at (slice_index_or s.lines.now (closed.first - 1) no_line) closed.end)
+abbrev pub EndsBox : Sheet → OpenBox → Sheet → Type 0
+EndsBox s closed after =
+    Becomes s (slice_set s.lines.now (closed.first - 1) (ended_at (slice_index_or s.lines.now (closed.first - 1) no_line) closed.end)) s.count after
