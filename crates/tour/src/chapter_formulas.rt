@@ -6,7 +6,7 @@ use grammar::node::Node;
 use std::io;
 
 // No stored formula has a longer text.
-const LONGEST_TEXT: usize = 1024;
+pub(crate) const LONGEST_TEXT: usize = 1024;
 
 pub(crate) fn tell(rt: &HostRuntime) -> anyhow::Result<()> {
     rt.println("Formulas")?;

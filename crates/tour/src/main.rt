@@ -4,6 +4,7 @@
 // `rt` is a parameter of every `tell`: a struct of it and of what is told would be made at each call.
 
 mod chapter_algebras;
+mod chapter_derivations;
 mod chapter_formulas;
 mod words;
 
@@ -13,5 +14,6 @@ fn main(rt: HostRuntime) -> anyhow::Result<()> {
 
 fn tell(rt: &HostRuntime) -> anyhow::Result<()> {
     chapter_formulas::tell(rt)?;
-    chapter_algebras::tell(rt)
+    chapter_algebras::tell(rt)?;
+    chapter_derivations::tell(rt)
 }

@@ -1,0 +1,143 @@
+// Derivations with just as many premises, boxes and lines as there may be, and one more; every refusal by number and place.
+use crate::writing::{fresh_store, told};
+use derivations::gathering::Gathering;
+use fitch::mode::Mode;
+use fitch::rule::{Reason, Rule};
+use ledger::line::{BLANK, Line, LineInfo};
+use std::test::Fail;
+
+// What the caller's line records hold before they are lent.
+const MARK: Line = Line {
+    formula: 99,
+    inside: 98,
+    ..BLANK
+};
+
+// The places of p, of q, and of none in a fresh store.
+const P: usize = 16;
+
+const Q: usize = 17;
+
+const NOWHERE: usize = 27;
+
+fn all_marked(lines: &[Line]) -> bool {
+    lines.iter().all(|line| *line == MARK)
+}
+
+#[test]
+fn thirty_two_premises_and_one_more(rt: HostRuntime) -> Result<(), Fail> {
+    let store = fresh_store(rt.alloc())?;
+    let mut lines = [MARK; 34];
+    let mut gathering = Gathering::new(&store, &mut lines, Mode::Constructive);
+    for number in 1..33 {
+        assert_eq!(rt; told(gathering.premise(NOWHERE)), Some((7, 0)));
+        assert_eq!(rt; gathering.premise(P), Ok(number));
+    }
+    assert_eq!(rt; told(gathering.premise(NOWHERE)), Some((7, 0)));
+    assert_eq!(rt; told(gathering.premise(P)), Some((8, 0)));
+    assert_eq!(rt; told(gathering.line(33)), Some((12, 0)));
+    let mut open = gathering.open();
+    assert_eq!(rt; open.step(P, Rule::Reiterate, &[32]), Ok(33));
+    let sequent = open.seal().sequent()?;
+    assert!(rt; sequent.premises() == [P; 32].as_slice());
+    assert_eq!(rt; sequent.conclusion, P);
+    assert!(rt; all_marked(&lines[33..]));
+    Ok(())
+}
+
+#[test]
+fn the_thirty_third_premise_is_refused_before_its_record(rt: HostRuntime) -> Result<(), Fail> {
+    let store = fresh_store(rt.alloc())?;
+    let mut lines = [MARK; 32];
+    let mut gathering = Gathering::new(&store, &mut lines, Mode::Classical);
+    for number in 1..33 {
+        assert_eq!(rt; gathering.premise(Q), Ok(number));
+    }
+    assert_eq!(rt; told(gathering.premise(P)), Some((8, 0)));
+    let mut open = gathering.open();
+    assert_eq!(rt; told(open.step(Q, Rule::Reiterate, &[1])), Some((9, 0)));
+    Ok(())
+}
+
+#[test]
+fn empty_line_memory(rt: HostRuntime) -> Result<(), Fail> {
+    let store = fresh_store(rt.alloc())?;
+    let mut gathering = Gathering::new(&store, &mut [], Mode::Constructive);
+    assert_eq!(rt; told(gathering.premise(NOWHERE)), Some((7, 0)));
+    assert_eq!(rt; told(gathering.premise(P)), Some((9, 0)));
+    assert_eq!(rt; told(gathering.line(0)), Some((12, 0)));
+    assert_eq!(rt; told(gathering.line(1)), Some((12, 0)));
+    let mut open = gathering.open();
+    assert_eq!(rt; told(open.assume(NOWHERE)), Some((7, 0)));
+    assert_eq!(rt; told(open.assume(P)), Some((9, 0)));
+    assert_eq!(rt; told(open.step(P, Rule::Reiterate, &[1])), Some((12, 1)));
+    assert_eq!(rt; told(open.close()), Some((16, 0)));
+    assert_eq!(rt; told(open.seal().sequent()), Some((18, 0)));
+    Ok(())
+}
+
+#[test]
+fn sixteen_boxes_and_one_more(rt: HostRuntime) -> Result<(), Fail> {
+    let store = fresh_store(rt.alloc())?;
+    let mut lines = [MARK; 18];
+    let mut open = Gathering::new(&store, &mut lines, Mode::Constructive).open();
+    for number in 1..17 {
+        assert_eq!(rt; open.assume(P), Ok(number));
+    }
+    assert_eq!(rt; told(open.assume(NOWHERE)), Some((7, 0)));
+    assert_eq!(rt; told(open.assume(P)), Some((10, 0)));
+    assert_eq!(rt; open.step(P, Rule::Reiterate, &[1]), Ok(17));
+    for _ in 0..16 {
+        assert_eq!(rt; open.close(), Ok(()));
+    }
+    assert_eq!(rt; told(open.close()), Some((16, 0)));
+    assert_eq!(rt; open.assume(Q), Ok(18));
+    assert_eq!(rt; told(open.assume(Q)), Some((9, 0)));
+    assert_eq!(rt; open.close(), Ok(()));
+    assert_eq!(rt; told(open.close()), Some((16, 0)));
+    assert_eq!(rt; told(open.seal().sequent()), Some((18, 0)));
+    Ok(())
+}
+
+#[test]
+fn the_seventeenth_box_is_refused_before_its_record(rt: HostRuntime) -> Result<(), Fail> {
+    let store = fresh_store(rt.alloc())?;
+    let mut lines = [MARK; 16];
+    let mut open = Gathering::new(&store, &mut lines, Mode::Constructive).open();
+    for number in 1..17 {
+        assert_eq!(rt; open.assume(P), Ok(number));
+    }
+    assert_eq!(rt; told(open.assume(P)), Some((10, 0)));
+    assert_eq!(rt; told(open.seal().sequent()), Some((17, 0)));
+    Ok(())
+}
+
+#[test]
+fn all_lines_and_one_more(rt: HostRuntime) -> Result<(), Fail> {
+    let store = fresh_store(rt.alloc())?;
+    let mut lines = vec![in rt.alloc(); MARK; 1030]?;
+    let mut gathering = Gathering::new(&store, &mut lines, Mode::Constructive);
+    assert_eq!(rt; gathering.premise(P), Ok(1));
+    let mut open = gathering.open();
+    assert_eq!(rt; open.assume(Q), Ok(2));
+    for number in 3..1025 {
+        assert_eq!(rt; open.step(P, Rule::Reiterate, &[1]), Ok(number));
+    }
+    assert_eq!(rt; told(open.step(Q, Rule::Reiterate, &[1])), Some((15, 0)));
+    assert_eq!(rt; told(open.step(P, Rule::Reiterate, &[1024])), Some((9, 0)));
+    assert_eq!(rt; told(open.step(P, Rule::Reiterate, &[1025])), Some((12, 1)));
+    assert_eq!(rt; told(open.assume(P)), Some((9, 0)));
+    let last = LineInfo {
+        formula: P,
+        reason: Reason::Step(Rule::Reiterate, [1, 0, 0]),
+        innermost: 2,
+    };
+    assert_eq!(rt; open.line(1024), Ok(last));
+    assert_eq!(rt; told(open.line(1025)), Some((12, 0)));
+    assert_eq!(rt; open.close(), Ok(()));
+    let sealed = open.seal();
+    assert_eq!(rt; sealed.line(1024), Ok(last));
+    assert_eq!(rt; sealed.sequent()?.conclusion, P);
+    assert!(rt; all_marked(&lines[1024..]));
+    Ok(())
+}
