@@ -25,6 +25,7 @@ pub(crate) enum Act<'t> {
 // The formulas of a derivation in a store, each by its place; the end of a box has none, and 0.
 #[derive(Drop)]
 pub(crate) struct Script<'t> {
+    pub(crate) title: &'t str,
     pub(crate) store: Store,
     pub(crate) premises: Vec<usize>,
     pub(crate) acts: Vec<(Act<'t>, usize)>,
@@ -52,6 +53,7 @@ pub(crate) fn read<'t>(heap: Global, textbook: &Textbook<'t>) -> Result<Script<'
     }
     let conclusion = store.read(textbook.conclusion.as_bytes())?;
     Ok(Script {
+        title: textbook.title,
         store,
         premises,
         acts,
@@ -60,7 +62,7 @@ pub(crate) fn read<'t>(heap: Global, textbook: &Textbook<'t>) -> Result<Script<'
 }
 
 // The number and the place of a refusal.
-pub(crate) fn told<T: Drop>(answer: Result<T, Refusal>) -> Option<(u8, usize)> {
+pub(crate) fn told<T: Drop, R: Told + Copy>(answer: Result<T, R>) -> Option<(u8, usize)> {
     answer
         .err()
         .map(|refusal| (refusal.number(), refusal.place()))

@@ -36,6 +36,13 @@ ClassicalSound =
     → (m : Meaning) → Lawful m → (v : List ℕ) → ByMembers m v
     → Below m (meet_all m v (in_force h l)) (negation m (negation m (value m v l.formula)))
 
+-- at every line of a classical derivation, in every double-negation layer, the meet of the formulas in force lies below the line's value
+abbrev pub ClassicalInLayers : Type 0
+ClassicalInLayers =
+    (h : History) → Written Classical h → (i : ℕ) (l : Line) → line_at h i ≡ Some l
+    → (m : Meaning) → Lawful m → (v : List ℕ) → ByMembers (regular m) v
+    → Below (regular m) (meet_all (regular m) v (in_force h l)) (value (regular m) v l.formula)
+
 -- where each letter has in the double-negation layer the double negation of its value, every formula has the double negation of its value
 abbrev pub DoubleNegations : Type 0
 DoubleNegations =

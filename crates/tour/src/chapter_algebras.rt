@@ -13,9 +13,9 @@ use weighing::valuation::Valuation;
 const RECORDS: usize = 64;
 
 // A document is received (0), catalogued (1), reviewed (2) and released (3); a review may reopen the catalogue.
-const STAGES: u32 = 4;
+pub(crate) const STAGES: u32 = 4;
 
-const STEPS: [(u32, u32); 4] = [(0, 1), (1, 2), (2, 1), (2, 3)];
+pub(crate) const STEPS: [(u32, u32); 4] = [(0, 1), (1, 2), (2, 1), (2, 3)];
 
 // p from the catalogue on, q once released.
 const CATALOGUED: u32 = 14;

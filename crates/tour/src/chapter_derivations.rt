@@ -1,6 +1,7 @@
 // A release rule is derived step by step, two wrong steps are refused, and the finished derivation tells what it shows.
 use crate::chapter_formulas::LONGEST_TEXT;
-use crate::words::Refused;
+use crate::chapter_weighing;
+use crate::words::{Refused, ending};
 use derivations::gathering::Gathering;
 use derivations::open::Open;
 use derivations::sealed::Sealed;
@@ -62,13 +63,13 @@ fn tell_release(rt: &HostRuntime, mut store: Store) -> anyhow::Result<()> {
     tell_step(rt, &mut open, released, "R", &[5])?;
     tell_step(rt, &mut open, shown, ">I", &[3])?;
     rt.println("\nThe derivation is sealed:")?;
-    tell_shown(rt, &store, &open.seal())
+    let sealed = open.seal();
+    tell_shown(rt, &store, &sealed)?;
+    chapter_weighing::tell_release(rt, &sealed)
 }
 
 fn read<'t>(rt: &HostRuntime, store: &mut Store, text: &'t str) -> anyhow::Result<Clause<'t>> {
-    let place = store
-        .read(text.as_bytes())
-        .map_err(|refusal| anyhow::Error::msg(Refused(refusal)))?;
+    let place = store.read(text.as_bytes()).map_err(ending)?;
     println!(rt; "  read    '{text}': place {place}")?;
     Ok(Clause { text, place })
 }

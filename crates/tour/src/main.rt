@@ -6,6 +6,7 @@
 mod chapter_algebras;
 mod chapter_derivations;
 mod chapter_formulas;
+mod chapter_weighing;
 mod words;
 
 fn main(rt: HostRuntime) -> anyhow::Result<()> {
@@ -15,5 +16,6 @@ fn main(rt: HostRuntime) -> anyhow::Result<()> {
 fn tell(rt: &HostRuntime) -> anyhow::Result<()> {
     chapter_formulas::tell(rt)?;
     chapter_algebras::tell(rt)?;
-    chapter_derivations::tell(rt)
+    chapter_derivations::tell(rt)?;
+    chapter_weighing::tell_excluded_middle(rt)
 }

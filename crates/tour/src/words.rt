@@ -38,3 +38,8 @@ impl<R: Told + Copy> fmt::Display for Refused<R> {
         write!(f, "refused {} at {}", self.0.number(), self.0.place())
     }
 }
+
+// A refusal that ends the tour, where the tour can't go on.
+pub(crate) fn ending<R: Told + Copy + Drop>(refusal: R) -> anyhow::Error {
+    anyhow::Error::msg(Refused(refusal))
+}

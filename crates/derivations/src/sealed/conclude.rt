@@ -30,6 +30,7 @@ impl<'s, 'l> Sealed<'s, 'l> {
     #[tactic(auto, using(crate::proofs::Writing::recorded_open))]
     pub fn sequent(&self) -> Result<Sequent, Refusal>
         ensures exact { (h : History) → Finished self.now h → MatchResult result (λ s. Accepted (sequent_checks h) × SequentOf (mode_by self.now) (formulas_by self.now) h s) (Refused (sequent_checks h)) }
+        ensures mode { IfOk result (λ s. s.mode ≡ mode_by self.now) }
         ensures entails { IfOk result (λ s. Entails s.mode (map (formula_at (formulas_by self.now)) (premise_places s)) (formula_at (formulas_by self.now) s.conclusion)) }
     {
         if self.derivation.boxes.top().is_some() {

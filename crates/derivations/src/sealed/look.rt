@@ -1,10 +1,12 @@
-// The lines of the derivation, to be read.
+// The lines and the store of the derivation, to be read.
+ghost use Rattle.std.specs.Prelude.{◌≡◌};
 ghost use Rattle.fitch.specs.History.{History};
 ghost use Rattle.ledger.specs.Telling.{LineTold};
 ghost use Rattle.derivations.specs.Finished.{Finished, formulas_by};
 
 use crate::sealed::Sealed;
 use fitch::refusal::Refusal;
+use formulas::store::Store;
 use ledger::line::LineInfo;
 
 impl<'s, 'l> Sealed<'s, 'l> {
@@ -13,5 +15,12 @@ impl<'s, 'l> Sealed<'s, 'l> {
         ensures { (h : History) → Finished self.now h → LineTold (formulas_by self.now) h number result }
     {
         self.derivation.line(number)
+    }
+
+    // The store that it is written over, whose places the lines and the sequent name.
+    pub fn store(&self) -> &'s Store
+        ensures { result.now ≡ self.now.derivation.sheet.store.now }
+    {
+        self.derivation.sheet.store
     }
 }

@@ -1,0 +1,8 @@
+// What a derivation is worth in an algebra: it is sealed, and its sequent is weighed.
+//
+//   refusal::Unjudged   why there is no verdict
+//   judge::judge        the verdict, whatever the derivation and the algebra
+#![tactic(auto)]
+
+pub mod judge;
+pub mod refusal;
