@@ -1,0 +1,5 @@
+pub mod Kinds
+pub mod Turns
+pub mod Entries
+pub mod Forms
+pub mod Texts

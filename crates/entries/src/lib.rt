@@ -1,0 +1,15 @@
+// The records of files by what they say.
+//
+//   entry::Entry     what a record says, its formula as a text or as a place
+//   kind::Kind       the kind of a record
+//   turn::Turn       which kinds may come next
+//   parse::parse     what a record says, or its first wrong, missing or surplus field
+#![tactic(auto)]
+
+pub mod citations;
+pub mod entry;
+mod forms;
+pub mod kind;
+mod names;
+pub mod parse;
+pub mod turn;

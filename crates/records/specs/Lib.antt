@@ -1,0 +1,4 @@
+pub mod Limits
+pub mod Pieces
+pub mod Numbers
+pub mod Cursors
