@@ -1,0 +1,8 @@
+// What is answered to an input.
+//
+//   checked::Checked   what an accepted proof file shows
+//   fault::Fault       the first fault of an input, by record, layer, number and place
+#![tactic(auto)]
+
+pub mod checked;
+pub mod fault;
