@@ -2,7 +2,7 @@
 use Rattle.std.proofs.Common.{◌≡◌, ℕ, ◌+◌, ◌-◌, ◌<◌, ◌≤◌, ◌∷◌, List, length, drop, set, sym, ap, ◌∙◌, subst, arith}
 use mathlib.Core.Logic.{∥∥₁_map}
 use native.Mathlib.Decide.{dec_lt, dec_le}
-use Rattle.std.proofs.lemmas.List.{drop-set-lt}
+use Rattle.std.proofs.lemmas.List.{drop-set-lt, length-set}
 use Rattle.formulas.specs.Stores.{contents}
 use Rattle.grammar.specs.Formula.{Formula}
 use Rattle.fitch.specs.Calls.{Room}
@@ -43,18 +43,20 @@ afterwards {s} {after} {es} {n} w Q q =
     (subst (λ xs. Q s.mode (formulas_of s) xs after.count) (sym w.lines) (subst (λ k. Q s.mode (formulas_of s) es k) (sym w.count) q)))
 
 -- a record that is written below the number of lines leaves what lies past them
-leaves : (s after : Sheet) (i n : ℕ) (line : Line) → i < n → Becomes s (set s.lines.now i line) n after → Leaves s after
-leaves s after i n line below w = record {
+leaves : (s after : Sheet) (i n : ℕ) (line : Line) → i < n → s.count ≤ n → Becomes s (set s.lines.now i line) n after → Leaves s after
+leaves s after i n line below more w = record {
+  more = omega (arith, more, w.count);
   store = w.store;
   mode = w.mode;
+  long = ap length w.lines ∙ length-set s.lines.now i line;
   rest = ap (λ es. drop after.count es) w.lines ∙ drop-set-lt after.count s.lines.now i line (omega (arith, w.count));
 }
 
 pub write_leaves : (s after : Sheet) (line : Line) → Writes s line after → Leaves s after
-write_leaves s after line w = leaves s after s.count (s.count + 1) line (omega arith) w
+write_leaves s after line w = leaves s after s.count (s.count + 1) line (omega arith) (omega arith) w
 
 pub end_leaves : (s after : Sheet) (closed : OpenBox) → 0 < closed.first → closed.first ≤ s.count → EndsBox s closed after → Leaves s after
-end_leaves s after closed some within w = leaves s after (closed.first - 1) s.count _ (omega arith) w
+end_leaves s after closed some within w = leaves s after (closed.first - 1) s.count _ (omega arith) (omega arith) w
 
 -- the premises are lines
 pub premises_in : (o : Open) → o.premises ≤ length o.sheet.lines.now

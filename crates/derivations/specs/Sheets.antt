@@ -1,5 +1,5 @@
 -- The formulas and the line records of a derivation.
-use Rattle.std.specs.Prelude.{◌≡◌, ℕ, ◌+◌, ◌-◌, ◌<◌, List, length, drop, Result, MatchResult, slice_index_or, slice_set}
+use Rattle.std.specs.Prelude.{◌≡◌, ℕ, ◌+◌, ◌-◌, ◌<◌, ◌≤◌, List, length, drop, Result, MatchResult, slice_index_or, slice_set}
 use Rattle.formulas.specs.Stores.{contents}
 use Rattle.grammar.specs.Contents.{formula_at}
 use Rattle.grammar.specs.Formula.{Formula}
@@ -25,10 +25,12 @@ HasRoom s = (s.count < most_lines) × (s.count < length s.lines.now)
 abbrev pub Checked : Check → Result Unit Refusal → Type 0
 Checked c r = MatchResult r (λ _. c.passes) c.fails
 
--- what no call changes: the store, the mode, and the records past the lines
+-- what no call changes: the store, the mode, how long the slice is, and the records past the lines, which are not fewer than before
 pub record Leaves (s after : Sheet) : Type 0 where
+  pub more : s.count ≤ after.count
   pub store : after.store ≡ s.store
   pub mode : after.mode ≡ s.mode
+  pub long : length after.lines.now ≡ length s.lines.now
   pub rest : drop after.count after.lines.now ≡ drop after.count s.lines.now
 
 -- the sheet with other records, and another number of lines

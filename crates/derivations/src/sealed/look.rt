@@ -1,6 +1,6 @@
 // The lines and the store of the derivation, to be read.
 ghost use Rattle.std.specs.Prelude.{◌≡◌};
-ghost use Rattle.fitch.specs.History.{History};
+ghost use Rattle.fitch.specs.History.{History, count};
 ghost use Rattle.ledger.specs.Telling.{LineTold};
 ghost use Rattle.derivations.specs.Finished.{Finished, formulas_by};
 
@@ -22,5 +22,13 @@ impl<'s, 'l> Sealed<'s, 'l> {
         ensures { result.now ≡ self.now.derivation.sheet.store.now }
     {
         self.derivation.sheet.store
+    }
+
+    // How many lines it has.
+    #[tactic(auto)]
+    pub fn count(&self) -> usize
+        ensures { (h : History) → Finished self.now h → result ≡ count h }
+    {
+        self.derivation.sheet.count
     }
 }

@@ -1,0 +1,30 @@
+-- Where the gathering ends.
+use Rattle.std.proofs.Common.{◌≡◌, ℕ, ◌+◌, ◌≤◌, Bool, true, false, cond, not, nat_lt, ltb-false, List, map, length, position, Some, None, refl, sym, ◌∙◌, arith}
+use Rattle.std.specs.List.{position_or_len}
+use Rattle.std.specs.Option.{unwrap_or}
+use Rattle.std.proofs.lemmas.List.Sums.{prefix_len-le-length}
+use Rattle.std.proofs.lemmas.List.Recursion.{is_position_or_len}
+use Rattle.entries.specs.declared.entry.Entry.{Entry}
+use Rattle.readings.specs.Answers.{stored}
+use Rattle.scripts.specs.Proofs.{acts}
+
+turned : (b : Bool) (n : ℕ) → cond (not b) (1 + n) 0 ≡ cond b 0 (1 + n)
+turned true n = refl
+turned false n = refl
+
+module _ {A : Type 0} (p : A → Bool) where
+  at_most : (xs : List A) → position_or_len p xs ≤ length xs
+  at_most xs = prefix_len-le-length (λ x. not (p x)) xs
+
+  counted : (xs : List A) → unwrap_or (position p xs) (length xs) ≡ position_or_len p xs
+  counted xs = at (nat_lt (position_or_len p xs) (length xs)) refl
+    where
+      at : (b : Bool) → nat_lt (position_or_len p xs) (length xs) ≡ b → unwrap_or (cond b (Some (position_or_len p xs)) None) (length xs) ≡ position_or_len p xs
+      at true less = refl
+      at false not_less = omega (arith, at_most xs, ltb-false (position_or_len p xs) (length xs) not_less)
+
+pub front_counted : (es : List (Entry ℕ)) → unwrap_or (position (λ e. acts (stored e)) es) (length es) ≡ position_or_len acts (map stored es)
+front_counted es = counted (λ e. acts (stored e)) es ∙ sym (is_position_or_len (λ xs. position_or_len acts (map stored xs)) (λ e. acts (stored e)) refl (λ x xs. turned (acts (stored x)) _) es)
+
+pub front_within : (es : List (Entry ℕ)) → position_or_len acts (map stored es) ≤ length es
+front_within es = omega (arith, at_most (λ e. acts (stored e)) es, is_position_or_len (λ xs. position_or_len acts (map stored xs)) (λ e. acts (stored e)) refl (λ x xs. turned (acts (stored x)) _) es)

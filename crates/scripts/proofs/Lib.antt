@@ -1,0 +1,3 @@
+pub mod Running
+pub mod Fronts
+pub mod Deriving

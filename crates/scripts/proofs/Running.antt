@@ -1,0 +1,93 @@
+-- Records are run one after the other.
+use Rattle.std.proofs.Common.{◌≡◌, ℕ, ◌+◌, ◌-◌, ◌<◌, ◌≤◌, List, ◌∷◌, map, length, get_or, drop, Ok, Err, Result, sym, refl, ap, ap₂, ◌∙◌, subst, arith}
+use Rattle.std.proofs.lemmas.List.{drop-drop, drop-map, drop_more, drop_all}
+use Rattle.fitch.specs.Checks.{Accepted, Refused}
+use Rattle.fitch.specs.History.{History}
+use Rattle.fitch.specs.declared.refusal.Refusal.{Refusal}
+use Rattle.derivations.specs.Derived.{Leaves as LeavesOpen}
+use Rattle.derivations.specs.Sheets.{formulas_of, Leaves}
+use Rattle.derivations.specs.declared.open.Open.{Open}
+use Rattle.derivations.specs.declared.sheet.Sheet.{Sheet}
+use Rattle.entries.specs.Entries.{Said}
+use Rattle.answers.specs.declared.fault.Fault.{Fault}
+use Rattle.answers.specs.declared.fault.Fault.TheVariants.{TooLong, At}
+use Rattle.answers.specs.declared.fault.Reason.TheVariants as reasons
+use Rattle.entries.specs.declared.entry.Entry.{Entry}
+use Rattle.entries.specs.declared.entry.Entry.TheVariants.{Mode}
+use Rattle.fitch.specs.declared.mode.Mode.TheVariants.{Constructive}
+use Rattle.formulas.specs.Stores.{contents}
+use Rattle.readings.specs.Answers.{stored}
+use Rattle.scripts.specs.Runs.{Steps, premise_steps, act_steps, Runs, Ran, RanOne}
+
+pub nothing_left : (s : Sheet) → Leaves s s
+nothing_left s = record { more = omega arith; store = refl; mode = refl; long = refl; rest = refl }
+
+drop_further : {A : Type 0} (j k : ℕ) (xs ys : List A) → j ≤ k → drop j xs ≡ drop j ys → drop k xs ≡ drop k ys
+drop_further {A = A} j k xs ys le e = sym (split xs) ∙ ap (drop (k - j)) e ∙ split ys
+  where
+    split : (zs : List A) → drop (k - j) (drop j zs) ≡ drop k zs
+    split zs = drop-drop (k - j) j zs ∙ ap (λ n. drop n zs) (omega (arith, le))
+
+pub leave_on : {s t u : Sheet} → Leaves s t → Leaves t u → Leaves s u
+leave_on {s} {t} {u} first second = record {
+  more = omega (arith, first.more, second.more);
+  store = second.store ∙ first.store;
+  mode = second.mode ∙ first.mode;
+  long = second.long ∙ first.long;
+  rest = second.rest ∙ drop_further t.count u.count t.lines.now s.lines.now second.more first.rest;
+}
+
+pub nothing_left_open : (o : Open) → LeavesOpen o o
+nothing_left_open o = record { premises = refl; sheet = nothing_left o.sheet }
+
+pub leave_on_open : {o p q : Open} → LeavesOpen o p → LeavesOpen p q → LeavesOpen o q
+leave_on_open first second = record { premises = second.premises ∙ first.premises; sheet = leave_on first.sheet second.sheet }
+
+module _ (steps : Steps) (first : ℕ) (all : List (Said ℕ)) where
+  -- after a history and its first n records, those that are left go on from here
+  abbrev pub SoFar : History → ℕ → History → Type 0
+  SoFar before n h = (r : Result History (ℕ × Refusal)) → Runs steps h (first + n) (drop n all) r → Runs steps before first all r
+
+  pub none_yet : (h : History) → SoFar h 0 h
+  none_yet h r runs = subst (λ k. Runs steps h k all r) (plus_zero first) runs
+    where
+      plus_zero : (k : ℕ) → k + 0 ≡ k
+      plus_zero k = omega arith
+
+  -- x is record n of those to be run, counted from 0
+  abbrev pub At_hand : ℕ → Said ℕ → Type 0
+  At_hand n x = drop n all ≡ x ∷ drop (n + 1) all
+
+  pub one_more : (before h : History) (n : ℕ) (x : Said ℕ) → At_hand n x → SoFar before n h → Accepted (steps.checks h x) → SoFar before (n + 1) (steps.after h x)
+  one_more before h n x here so_far accepted r runs =
+      so_far r (subst (λ xs. Runs steps h (first + n) xs r) (sym here) (Runs.next accepted (subst (λ k. Runs steps (steps.after h x) k (drop (n + 1) all) r) (omega arith) runs)))
+
+  stopped : (before h : History) (n : ℕ) (x : Said ℕ) (e : Refusal) → At_hand n x → SoFar before n h → Refused (steps.checks h x) e → Runs steps before first all (Err (first + n, e))
+  stopped before h n x e here so_far refused = so_far (Err (first + n, e)) (subst (λ xs. Runs steps h (first + n) xs (Err (first + n, e))) (sym here) (Runs.stop refused))
+
+  pub all_run : (before h : History) (n : ℕ) → length all ≤ n → SoFar before n h → Runs steps before first all (Ok h)
+  all_run before h n le so_far = so_far (Ok h) (subst (λ xs. Runs steps h (first + n) xs (Ok h)) (sym (drop_all n all le)) Runs.done)
+
+  -- a fault of the record at hand is one of the run
+  pub stopped_by : (Has Has_then : History → Type 0) (before h : History) (n : ℕ) (x : Said ℕ) (fault : Fault) → At_hand n x → SoFar before n h → RanOne steps Has h (first + n) x (Err fault) → Ran steps Has_then before first all (Err fault)
+  stopped_by Has Has_then before h n x TooLong here so_far ran = ran
+  stopped_by Has Has_then before h n x (At k (reasons.Form field)) here so_far ran = ran
+  stopped_by Has Has_then before h n x (At k (reasons.Formula refusal)) here so_far ran = ran
+  stopped_by Has Has_then before h n x (At k (reasons.Derivation e)) here so_far ran =
+      subst (λ i. Runs steps before first all (Err (i, e))) (sym ran.0) (stopped before h n x e here so_far ran.1)
+  stopped_by Has Has_then before h n x (At k (reasons.Algebra refusal)) here so_far ran = ran
+
+-- what stands past the end of the records
+abbrev pub no_entry : Entry ℕ
+no_entry = Mode Constructive
+
+pub at_hand : (es : List (Entry ℕ)) (n : ℕ) (d : Entry ℕ) → n < length es → drop n (map stored es) ≡ stored (get_or es n d) ∷ drop (n + 1) (map stored es)
+at_hand es n d lt = drop-map stored n es ∙ ap (map stored) (drop_more es n d lt) ∙ ap (λ xs. stored (get_or es n d) ∷ xs) (sym (drop-map stored (n + 1) es))
+
+pub same_premise_steps : {s t : Sheet} → Leaves s t → premise_steps (formulas_of t) (length t.lines.now) ≡ premise_steps (formulas_of s) (length s.lines.now)
+same_premise_steps {s} {t} leaves = ap₂ premise_steps (ap (λ store. contents store.now) leaves.store) leaves.long
+
+pub same_act_steps : {s t : Sheet} → Leaves s t → act_steps t.mode (formulas_of t) (length t.lines.now) ≡ act_steps s.mode (formulas_of s) (length s.lines.now)
+same_act_steps {s} {t} leaves =
+    ap (λ mode. act_steps mode (formulas_of t) (length t.lines.now)) leaves.mode
+    ∙ ap₂ (act_steps s.mode) (ap (λ store. contents store.now) leaves.store) leaves.long

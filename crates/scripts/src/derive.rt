@@ -1,0 +1,82 @@
+// Writes a derivation by the records of a proof file.
+ghost use Rattle.std.specs.Prelude.{◌≡◌, ◌≤◌, length, map, position, IfOk};
+ghost use Rattle.std.specs.List.{position_or_len};
+ghost use Rattle.formulas.specs.Stores.{contents};
+ghost use Rattle.grammar.specs.Contents.{formula_at};
+ghost use Rattle.ledger.specs.Sequents.{premise_places};
+ghost use Rattle.soundness.specs.Soundness.{Entails};
+ghost use Rattle.readings.specs.Answers.{stored};
+ghost use Rattle.fitch.specs.History.{History};
+ghost use Rattle.derivations.specs.Finished.{mode_by, Finished, formulas_by};
+ghost use Rattle.scripts.specs.Proofs.{acts, mode_of, Concluded, Derives};
+
+use crate::run::acts::act_all;
+use crate::run::premises::gather;
+use answers::checked::Checked;
+use answers::fault::{Fault, Reason};
+use derivations::gathering::Gathering;
+use derivations::sealed::Sealed;
+use entries::entry::Entry;
+use fitch::mode::Mode;
+use formulas::store::Store;
+use ledger::line::Line;
+
+fn mode_of(entries: &[Entry<usize>]) -> Mode
+    ensures { result ≡ mode_of (map stored entries.now) }
+{
+    match entries.first() {
+        Some(Entry::Mode(mode)) => *mode,
+        _ => Mode::Constructive,
+    }
+}
+
+fn acts(entry: Entry<usize>) -> bool
+    ensures { result ≡ acts (stored entry) }
+{
+    matches!(
+        entry,
+        Entry::Assume(_) | Entry::Step(_, _, _) | Entry::Close
+    )
+}
+
+fn first_act(entries: &[Entry<usize>]) -> Option<usize>
+    ensures { result ≡ position (λ e. acts (stored e)) entries.now }
+{
+    entries.iter().position(|entry| acts(*entry))
+}
+
+// How many records come before the first that ends the gathering.
+#[tactic(auto, using(crate::proofs::Fronts::front_counted, crate::proofs::Fronts::front_within))]
+fn count_front(entries: &[Entry<usize>]) -> usize
+    ensures place { result ≡ position_or_len acts (map stored entries.now) }
+    ensures within { result ≤ length entries.now }
+{
+    first_act(entries).unwrap_or(entries.len())
+}
+
+// What a sealed derivation of so many records shows; a fault of the sequent is told at the last of them.
+fn conclude(derivation: &Sealed, records: usize) -> Result<Checked, Fault>
+    ensures exact { (h : History) → Finished derivation.now h → Concluded (mode_by derivation.now) (formulas_by derivation.now) h records result }
+    ensures entails { IfOk result (λ c. Entails c.sequent.mode (map (formula_at (formulas_by derivation.now)) (premise_places c.sequent)) (formula_at (formulas_by derivation.now) c.sequent.conclusion)) }
+{
+    let sequent = derivation
+        .sequent()
+        .map_err(|refusal| Fault::At(records, Reason::Derivation(refusal)))?;
+    Ok(Checked {
+        sequent,
+        lines: derivation.count(),
+    })
+}
+
+// Writes a derivation by the records of a proof file, numbered from 1, over the store of their formulas: what it shows, or the first fault.
+pub fn derive(store: &Store, lines: &mut [Line], entries: &[Entry<usize>]) -> Result<Checked, Fault>
+    ensures exact { Derives (contents store.now) (length lines.old) (map stored entries.now) result }
+    ensures entails { IfOk result (λ c. Entails c.sequent.mode (map (formula_at (contents store.now)) (premise_places c.sequent)) (formula_at (contents store.now) c.sequent.conclusion)) }
+{
+    let (front, back) = entries.split_at(count_front(entries));
+    let mut gathering = Gathering::new(store, lines, mode_of(entries));
+    gather(&mut gathering, front, 1)?;
+    let mut derivation = gathering.open();
+    act_all(&mut derivation, back, front.len() + 1)?;
+    conclude(&derivation.seal(), entries.len())
+}

@@ -1,0 +1,7 @@
+// The records of a proof file as the calls of a derivation.
+//
+//   derive::derive   what the records show, or the first that is refused
+#![tactic(auto)]
+
+pub mod derive;
+mod run;

@@ -1,0 +1,4 @@
+// Runs of records.
+
+pub(crate) mod acts;
+pub(crate) mod premises;
