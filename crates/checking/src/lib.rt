@@ -1,0 +1,8 @@
+// The checking of a proof file.
+//
+//   check::check           what a proof file shows, or its first fault
+//   answer::Unanswered     why there is no such answer
+#![tactic(auto)]
+
+pub mod answer;
+pub mod check;
