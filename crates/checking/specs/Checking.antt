@@ -41,9 +41,14 @@ InputSays capacity format s fs gs (Err (At n (reasons.Formula refusal))) =
 InputSays capacity format s fs gs (Err (At n (reasons.Derivation refusal))) = ⊥
 InputSays capacity format s fs gs (Err (At n (reasons.Algebra refusal))) = ⊥
 
--- a proof file s, with so many line records: what it shows, or its first fault, of its records before any of its lines; memory may be wanting at any time
-abbrev pub Checks : ℕ → ℕ → List ℕ → List Formula → List Formula → Result Checked Unanswered → Type 0
-Checks capacity slice s fs gs (Ok c) = (xs : List (Said ℕ)) × InputSays capacity Proof s fs gs (Ok xs) × Derives gs slice xs (Ok c)
-Checks capacity slice s fs gs (Err OutOfMemory) = Unit {0}
-Checks capacity slice s fs gs (Err (Faulty fault)) =
+-- a proof file s, with so many line records: what it shows, or its first fault, of its records before any of its lines
+abbrev pub Shows : ℕ → ℕ → List ℕ → List Formula → List Formula → Result Checked Fault → Type 0
+Shows capacity slice s fs gs (Ok c) = (xs : List (Said ℕ)) × InputSays capacity Proof s fs gs (Ok xs) × Derives gs slice xs (Ok c)
+Shows capacity slice s fs gs (Err fault) =
     InputSays capacity Proof s fs gs (Err fault) ⊎ ((xs : List (Said ℕ)) × InputSays capacity Proof s fs gs (Ok xs) × Derives gs slice xs (Err fault))
+
+-- as the code answers it; memory may be wanting at any time
+abbrev pub Checks : ℕ → ℕ → List ℕ → List Formula → List Formula → Result Checked Unanswered → Type 0
+Checks capacity slice s fs gs (Ok c) = Shows capacity slice s fs gs (Ok c)
+Checks capacity slice s fs gs (Err OutOfMemory) = Unit {0}
+Checks capacity slice s fs gs (Err (Faulty fault)) = Shows capacity slice s fs gs (Err fault)

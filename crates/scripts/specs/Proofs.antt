@@ -51,7 +51,7 @@ front xs = before_first acts xs
 abbrev pub back : List (Said ℕ) → List (Said ℕ)
 back xs = drop (position_or_len acts xs) xs
 
-abbrev GoesOn : List Formula → ℕ → List (Said ℕ) → Result History (ℕ × Refusal) → Result History (ℕ × Refusal) → Type 0
+abbrev pub GoesOn : List Formula → ℕ → List (Said ℕ) → Result History (ℕ × Refusal) → Result History (ℕ × Refusal) → Type 0
 GoesOn fs slice xs (Ok h) r = Runs (act_steps (mode_of xs) fs slice) (begin ∷ h) (length (front xs) + 1) (back xs) r
 GoesOn fs slice xs (Err e) r = r ≡ Err e
 

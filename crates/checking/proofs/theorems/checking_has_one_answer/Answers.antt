@@ -1,0 +1,5 @@
+use Rattle.checking.proofs.Answers.{one_answer}
+use Rattle.checking.proofs.theorems.checking_has_one_answer.Goals as goal
+
+pub returns : goal.returns
+returns c = one_answer
