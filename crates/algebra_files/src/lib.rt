@@ -1,0 +1,9 @@
+// The algebra file: which algebra its entries mean, and the verdict on a sequent in it.
+//
+//   file::File             what an algebra file says, part by part
+//   wrong::Unweighed       why a sequent is not weighed in a file
+#![tactic(auto)]
+
+pub mod file;
+mod read;
+pub mod wrong;
