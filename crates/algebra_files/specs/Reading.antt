@@ -62,15 +62,15 @@ after_layer (Said.nucleus e ∷ xs) = xs
 after_layer (x ∷ xs) = x ∷ xs
 
 -- a file, if no entry is left
-abbrev whole : File → List (Said ℕ) → Option File
+abbrev pub whole : File → List (Said ℕ) → Option File
 whole f [] = Some f
 whole f (x ∷ xs) = None
 
-abbrev from_layer : Base → Option Base → List (Said ℕ) → Option File
+abbrev pub from_layer : Base → Option Base → List (Said ℕ) → Option File
 from_layer first second xs =
     whole (record { first = first; second = second; layer = layer_in xs; values = values_in (after_layer xs) }) (after_values (after_layer xs))
 
-abbrev from_second : Option Base → List (Said ℕ) → Option File
+abbrev pub from_second : Option Base → List (Said ℕ) → Option File
 from_second None xs = None
 from_second (Some first) xs = from_layer first (base_in xs) (after_base xs)
 
