@@ -1,2 +1,5 @@
 pub mod Files
 pub mod Reading
+pub mod Meant
+pub mod Faults
+pub mod Outcomes

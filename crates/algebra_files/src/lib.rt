@@ -5,5 +5,6 @@
 #![tactic(auto)]
 
 pub mod file;
+mod letters;
 mod read;
 pub mod wrong;
