@@ -3,3 +3,4 @@ pub mod Reading
 pub mod Meant
 pub mod Faults
 pub mod Outcomes
+pub mod Blame

@@ -5,17 +5,28 @@ use Rattle.answers.specs.declared.fault.Fault.TheVariants as faults
 use Rattle.answers.specs.declared.fault.Reason.{Reason}
 use Rattle.answers.specs.declared.fault.Reason.TheVariants.{Form, Formula as AFormula, Derivation, Algebra}
 use Rattle.entries.specs.Entries.{Said}
+use Rattle.frames.specs.Frames.{frame_means}
+use Rattle.frames.specs.declared.frame.Frame.{Frame}
 use Rattle.grammar.specs.Formula.{Formula}
+use Rattle.heyting.specs.Loading.{Unloadable}
 use Rattle.heyting.specs.Meaning.{Meaning}
 use Rattle.heyting.specs.declared.refusal.Refusal.{Refusal}
 use Rattle.ledger.specs.declared.sequent.Sequent.{Sequent}
 use Rattle.verdicts.specs.Weighing.{Stored, Weighed, Follows}
 use Rattle.verdicts.specs.declared.verdict.Verdict.{Verdict}
-use Rattle.algebra_files.specs.Faults.{FileFault}
-use Rattle.algebra_files.specs.Files.{File, written}
-use Rattle.algebra_files.specs.Meant.{Means, Elements}
+use Rattle.algebra_files.specs.Faults.{record_at, blamed, FileFault}
+use Rattle.algebra_files.specs.Files.{Base, File, written}
+use Rattle.algebra_files.specs.Meant.{Loads, Means, Elements}
 use Rattle.algebra_files.specs.declared.wrong.Unweighed.{Unweighed}
 use Rattle.algebra_files.specs.declared.wrong.Unweighed.TheVariants.{OutOfMemory, NotStored, ShortBuffer, At}
+
+-- the frame of a base that stands at a record, or the record at fault
+abbrev pub BaseLoaded : Base → ℕ → Result Frame Unweighed → Type 0
+BaseLoaded b n (Ok frame) = Loads b (frame_means frame)
+BaseLoaded b n (Err OutOfMemory) = ⊥
+BaseLoaded b n (Err NotStored) = ⊥
+BaseLoaded b n (Err ShortBuffer) = ⊥
+BaseLoaded b n (Err (At fault)) = (refusal : Refusal) × (fault ≡ faults.At (record_at n (blamed refusal)) (Algebra refusal)) × Unloadable b.worlds b.pairs refusal
 
 -- a verdict in an algebra that is meant, under the elements of the letters; what is entailed is confirmed
 pub record Verdicted (M : Meaning → Type 0) (fs : List Formula) (vs : List (ℕ × ℕ)) (s : Sequent) (before after : List ℕ) (verdict : Verdict) : Type 0 where

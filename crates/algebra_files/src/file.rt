@@ -1,6 +1,7 @@
 // What an algebra file says.
 
 mod counts;
+mod load;
 
 // A frame of so many worlds, by pairs of a world and one above it.
 #[derive(Drop)]

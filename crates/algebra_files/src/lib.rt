@@ -7,4 +7,6 @@
 pub mod file;
 mod letters;
 mod read;
+mod refuse;
+mod weigh_in;
 pub mod wrong;
