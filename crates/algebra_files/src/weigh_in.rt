@@ -61,3 +61,24 @@ fn weigh_in<A: Algebra>(
         Err(why) => Err(unweighed(why, values, number)),
     }
 }
+
+// The verdict in the layer over an algebra, if there is one, where the layer is the record of a number and the values come after it.
+pub(crate) fn weigh_over<A: Algebra>(
+    below: &A,
+    layer: Option<u32>,
+    sequent: &Sequent,
+    store: &Store,
+    values: &[(u8, u32)],
+    number: usize,
+    buffer: &mut [u32],
+) -> Result<Verdict, Unweighed>
+    ensures { Outcome (Layered (A.Algebra.means below.now) layer) (LayerFault (A.Algebra.means below.now) layer values.now number) (contents store.now) values.now sequent.now buffer.old buffer.new result }
+{
+    let Some(element) = layer else {
+        return weigh_in(below, sequent, store, values, number, buffer);
+    };
+    match Nucleus::new(below, element) {
+        Ok(nucleus) => weigh_in(&nucleus, sequent, store, values, number.saturating_add(1), buffer),
+        Err(_) => Err(at(number, Refusal::NotMember)),
+    }
+}

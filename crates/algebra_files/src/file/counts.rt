@@ -6,7 +6,7 @@ ghost use Rattle.algebra_files.specs.Reading.{base_of};
 use crate::file::Base;
 
 impl Base {
-    pub(crate) fn records(&self) -> usize
+    pub(crate) fn count(&self) -> usize
         ensures { result ≡ length (base_said (base_of self.now)) }
     {
         self.pairs.len() + 1
