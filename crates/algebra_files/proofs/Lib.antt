@@ -2,3 +2,4 @@ pub mod Written
 pub mod Giving
 pub mod Blaming
 pub mod Widening
+pub mod Standing
