@@ -1,18 +1,17 @@
 -- A letter that has no member has a value.
-use Rattle.std.proofs.Common.{◌≡◌, ◌≢◌, ℕ, suc, ◌+◌, ◌<◌, ◌≤◌, ◌==◌, Bool, true, false, cond, List, [], ◌∷◌, length, get_or, inl, inr, refl, sym, ap, ◌∙◌, subst, arith}
+use Rattle.std.proofs.Common.{◌≡◌, ℕ, suc, ◌+◌, ◌<◌, true, false, List, [], ◌∷◌, length, get_or, inl, inr, refl, sym, ◌∙◌, subst, arith}
 use Rattle.std.proofs.lemmas.Bool.{ne_eqb}
 use Rattle.std.proofs.lemmas.Grind.{get_or_default_zero}
 use Rattle.grammar.specs.Formula.{Formula}
 use Rattle.heyting.specs.Evaluating.{FirstStranger}
-use Rattle.heyting.specs.Meaning.{Meaning, Member, Lawful}
-use Rattle.heyting.specs.declared.refusal.Refusal.{Refusal}
+use Rattle.heyting.specs.Meaning.{Meaning, Lawful}
 use Rattle.heyting.specs.declared.refusal.Refusal.TheVariants.{WorldsOutOfRange, NoSuchWorld, SpanTooLarge, NotMember, ShortBuffer, LetterNotMember}
 use Rattle.ledger.specs.declared.sequent.Sequent.{Sequent}
 use Rattle.verdicts.specs.Weighing.{Unweighed}
 use Rattle.verdicts.specs.declared.refusal.Unweighable.{Unweighable}
 use Rattle.verdicts.specs.declared.refusal.Unweighable.TheVariants.{NotStored, NotEvaluated}
 use Rattle.algebra_files.specs.Blame.{Latest, WhyNot, FaultAt}
-use Rattle.algebra_files.specs.Faults.{record_at, LetterFault}
+use Rattle.algebra_files.specs.Faults.{LetterFault}
 use Rattle.algebra_files.specs.Meant.{element_of, Elements, Gives, LastFor}
 use Rattle.algebra_files.specs.Outcomes.{Stopped}
 use Rattle.algebra_files.specs.declared.wrong.Unweighed.{Unweighed as Why}

@@ -1,5 +1,5 @@
 -- The elements of letters, value by value.
-use Rattle.std.proofs.Common.{◌≡◌, ℕ, ◌+◌, ◌<◌, ◌≤◌, List, length, get_or, take, drop, sym, ap, ◌∙◌, subst, add-one, arith, drop-cons}
+use Rattle.std.proofs.Common.{◌≡◌, ℕ, ◌+◌, ◌<◌, ◌≤◌, List, length, get_or, drop, ap, subst, add-one, drop-cons}
 use Rattle.std.proofs.Math.ListN.{replicate, drop_of_length-le}
 use Rattle.std.proofs.lemmas.List.{get_or-replicate}
 use Rattle.algebra_files.specs.Meant.{element_of, Elements, Given}

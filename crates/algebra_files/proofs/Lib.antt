@@ -3,3 +3,4 @@ pub mod Giving
 pub mod Blaming
 pub mod Widening
 pub mod Standing
+pub mod Answering

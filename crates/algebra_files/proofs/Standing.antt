@@ -1,12 +1,10 @@
 -- What stands below the layer of a file.
-use Rattle.std.proofs.Common.{◌≡◌, ℕ, ◌+◌, ◌-◌, ◌^◌, ◌<◌, List, length, min, Some, None, Option, Ok, Err, Result, refl, sym, ap, ◌∙◌, subst, arith}
-use Rattle.answers.specs.declared.fault.Fault.{Fault}
+use Rattle.std.proofs.Common.{◌≡◌, ℕ, ◌^◌, ◌<◌, List, length, Some, None, Err, Result, refl, sym, ap, ◌∙◌, subst, arith}
 use Rattle.answers.specs.declared.fault.Fault.TheVariants as faults
 use Rattle.answers.specs.declared.fault.Reason.TheVariants.{Algebra}
 use Rattle.grammar.specs.Formula.{Formula}
 use Rattle.heyting.specs.Layers.{Pairable, product}
 use Rattle.heyting.specs.Meaning.{Meaning}
-use Rattle.heyting.specs.declared.refusal.Refusal.{Refusal}
 use Rattle.heyting.specs.declared.refusal.Refusal.TheVariants.{SpanTooLarge}
 use Rattle.ledger.specs.declared.sequent.Sequent.{Sequent}
 use Rattle.verdicts.specs.declared.verdict.Verdict.{Verdict}

@@ -1,5 +1,5 @@
 -- An answer where less is meant is one where more is.
-use Rattle.std.proofs.Common.{◌≡◌, ℕ, ◌+◌, ◌-◌, ◌^◌, ◌<◌, List, length, min, Some, None, Option, Ok, Err, Result, refl, sym, subst, arith}
+use Rattle.std.proofs.Common.{◌≡◌, ℕ, ◌^◌, ◌<◌, List, Some, None, Option, Ok, Err, Result, refl, sym, subst, arith}
 use Rattle.answers.specs.declared.fault.Fault.TheVariants as faults
 use Rattle.answers.specs.declared.fault.Reason.TheVariants.{Form, Formula as AFormula, Derivation, Algebra}
 use Rattle.grammar.specs.Formula.{Formula}

@@ -1,5 +1,5 @@
 -- Which algebra a file means, and which elements it gives to letters.
-use Rattle.std.specs.Prelude.{◌≡◌, ◌≢◌, ℕ, ◌+◌, ◌<◌, ◌==◌, if◌then◌else◌, List, [], ◌∷◌, length, Some, None, Option, slice_index, slice_index_or}
+use Rattle.std.specs.Prelude.{◌≡◌, ℕ, ◌+◌, ◌<◌, ◌==◌, if◌then◌else◌, List, [], ◌∷◌, length, Some, None, Option, slice_index, slice_index_or}
 use Rattle.heyting.specs.Layers.{Pairable, product, nucleus}
 use Rattle.heyting.specs.Loading.{Loadable}
 use Rattle.heyting.specs.Meaning.{Meaning, Member}

@@ -1,10 +1,10 @@
-use Rattle.std.proofs.Common.{◌≡◌, length, ◌^◌, ◌<◌, Some, None, Ok, Err, refl, ap, ◌∙◌, arith}
+use Rattle.std.proofs.Common.{◌≡◌, length, ◌^◌, ◌<◌, Some, None, Err, refl, ap, ◌∙◌, arith}
 use Rattle.std.specs.Option.{option_map}
 use Rattle.std.proofs.lemmas.Grind.{common_steps}
 use Rattle.formulas.specs.Stores.{contents}
 use Rattle.frames.specs.Frames.{frame_means}
 use Rattle.heyting.specs.Layers.{product}
-use Rattle.algebra_files.specs.Faults.{record_at, second_record, layer_record}
+use Rattle.algebra_files.specs.Faults.{record_at, second_record}
 use Rattle.algebra_files.specs.Files.{base_said}
 use Rattle.algebra_files.specs.Reading.{base_of, file_of}
 use Rattle.algebra_files.proofs.Standing.{first_wrong, second_wrong, too_large, alone, paired, alone_record, paired_record, standing}

@@ -1,4 +1,4 @@
-use Rattle.std.proofs.Common.{◌≡◌, subst}
+use Rattle.std.proofs.Common.{subst}
 use Rattle.formulas.specs.Stores.{contents}
 use Rattle.algebra_files.specs.Meant.{Elements}
 use Rattle.algebra_files.proofs.Blaming.{stopped}

@@ -1,11 +1,6 @@
 use Rattle.std.proofs.Common.{◌≡◌, ◌^◌, ◌<◌, Err, refl, arith}
 use Rattle.formulas.specs.Stores.{contents}
 use Rattle.heyting.specs.Layers.{nucleus}
-use Rattle.heyting.specs.Meaning.{Meaning, Member}
-use Rattle.heyting.specs.declared.refusal.Refusal.TheVariants.{NotMember}
-use Rattle.algebra_files.specs.Faults.{record_at, LetterFault, LayerFault}
-use Rattle.algebra_files.specs.Meant.{Layered}
-use Rattle.algebra_files.specs.Outcomes.{Outcome, Stopped}
 use Rattle.algebra_files.proofs.Widening.{no_layer, one_layer, no_member}
 use Rattle.algebra_files.proofs.weigh_in.weigh_over.Goals as goal
 
