@@ -1,10 +1,11 @@
 -- What weighing in a file answers.
-use Rattle.std.specs.Prelude.{◌≡◌, ℕ, ◌<◌, List, length, Ok, Err, Result}
+use Rattle.std.specs.Prelude.{◌≡◌, ℕ, ◌<◌, true, List, length, Ok, Err, Result}
 use Rattle.answers.specs.declared.fault.Fault.{Fault}
 use Rattle.answers.specs.declared.fault.Fault.TheVariants as faults
 use Rattle.answers.specs.declared.fault.Reason.{Reason}
 use Rattle.answers.specs.declared.fault.Reason.TheVariants.{Form, Formula as AFormula, Derivation, Algebra}
 use Rattle.entries.specs.Entries.{Said}
+use Rattle.fitch.specs.declared.mode.Mode.TheVariants.{Constructive}
 use Rattle.frames.specs.Frames.{frame_means}
 use Rattle.frames.specs.declared.frame.Frame.{Frame}
 use Rattle.grammar.specs.Formula.{Formula}
@@ -12,7 +13,8 @@ use Rattle.heyting.specs.Loading.{Unloadable}
 use Rattle.heyting.specs.Meaning.{Meaning}
 use Rattle.heyting.specs.declared.refusal.Refusal.{Refusal}
 use Rattle.ledger.specs.declared.sequent.Sequent.{Sequent}
-use Rattle.verdicts.specs.Weighing.{Stored, Weighed, Follows}
+use Rattle.soundness.specs.Soundness.{Entails}
+use Rattle.verdicts.specs.Weighing.{premises_of, conclusion_of, Stored, Weighed, Follows}
 use Rattle.verdicts.specs.declared.verdict.Verdict.{Verdict}
 use Rattle.algebra_files.specs.Faults.{record_at, blamed, FileFault}
 use Rattle.algebra_files.specs.Files.{Base, File, written}
@@ -70,3 +72,8 @@ OutOfTurn first (Err (At fault)) = fault ≡ faults.At first (Form 1)
 pub record WeighedInFile (first : ℕ) (xs : List (Said ℕ)) (fs : List Formula) (s : Sequent) (before after : List ℕ) (r : Result Verdict Unweighed) : Type 0 where
   pub file : (f : File) → xs ≡ written f → Outcome (Means f) (FileFault first f) fs f.values s before after r
   pub none : ((f : File) → xs ≡ written f → ⊥) → OutOfTurn first r × (after ≡ before)
+
+-- constructively the verdict on what is entailed holds, whatever the file
+abbrev pub Confirmed : List Formula → Sequent → Result Verdict Unweighed → Type 0
+Confirmed fs s (Ok verdict) = s.mode ≡ Constructive → Entails Constructive (premises_of fs s) (conclusion_of fs s) → verdict.holds ≡ true
+Confirmed fs s (Err why) = Unit {0}

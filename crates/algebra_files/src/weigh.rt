@@ -3,7 +3,7 @@ ghost use Rattle.std.specs.Prelude.{◌≡◌, map};
 ghost use Rattle.formulas.specs.Stores.{contents};
 ghost use Rattle.algebra_files.specs.Faults.{FileFault};
 ghost use Rattle.algebra_files.specs.Meant.{Means};
-ghost use Rattle.algebra_files.specs.Outcomes.{Outcome, WeighedInFile};
+ghost use Rattle.algebra_files.specs.Outcomes.{Outcome, WeighedInFile, Confirmed};
 ghost use Rattle.algebra_files.specs.Reading.{stored, file_of};
 
 use crate::file::File;
@@ -60,7 +60,8 @@ pub fn weigh_in_file(
     first: usize,
     values: &mut [u32],
 ) -> Result<Verdict, Unweighed>
-    ensures { WeighedInFile first (map stored entries.now) (contents store.now) sequent.now values.old values.new result }
+    ensures exact { WeighedInFile first (map stored entries.now) (contents store.now) sequent.now values.old values.new result }
+    ensures confirmed { Confirmed (contents store.now) sequent.now result }
 {
     match read_file(heap, entries)? {
         Some(file) => weigh_with(&file, sequent, store, first, values),
