@@ -92,10 +92,7 @@ impl Entries<'_> {
 }
 
 // What the entries say, if they are those of a file.
-pub(crate) fn read_file(
-    heap: Global,
-    entries: &[Entry<usize>],
-) -> Result<Option<File>, Unweighed>
+pub(crate) fn read_file(heap: Global, entries: &[Entry<usize>]) -> Result<Option<File>, Unweighed>
     ensures { MatchResult result (λ f. option_map file_of f ≡ file_in (map stored entries.now)) (λ e. e ≡ OutOfMemory) }
 {
     let mut entries = Entries { rest: entries };

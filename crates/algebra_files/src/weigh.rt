@@ -33,7 +33,15 @@ fn weigh_with(
     let frame = file.first.load(first)?;
     let number = first.saturating_add(file.first.count());
     let Some(second) = &file.second else {
-        return weigh_over(&frame, file.layer, sequent, store, &file.values, number, buffer);
+        return weigh_over(
+            &frame,
+            file.layer,
+            sequent,
+            store,
+            &file.values,
+            number,
+            buffer,
+        );
     };
     let other = second.load(number)?;
     match Product::new(frame, other) {

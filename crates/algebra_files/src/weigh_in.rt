@@ -38,7 +38,10 @@ fn unweighed(why: Unweighable, values: &[(u8, u32)], number: usize) -> Unweighed
     match why {
         Unweighable::NotStored => Unweighed::NotStored,
         Unweighable::NotEvaluated(Refusal::ShortBuffer) => Unweighed::ShortBuffer,
-        Unweighable::NotEvaluated(refusal) => at(number.saturating_add(blamed_value(refusal, values)), refusal),
+        Unweighable::NotEvaluated(refusal) => at(
+            number.saturating_add(blamed_value(refusal, values)),
+            refusal,
+        ),
     }
 }
 
@@ -78,7 +81,14 @@ pub(crate) fn weigh_over<A: Algebra>(
         return weigh_in(below, sequent, store, values, number, buffer);
     };
     match Nucleus::new(below, element) {
-        Ok(nucleus) => weigh_in(&nucleus, sequent, store, values, number.saturating_add(1), buffer),
+        Ok(nucleus) => weigh_in(
+            &nucleus,
+            sequent,
+            store,
+            values,
+            number.saturating_add(1),
+            buffer,
+        ),
         Err(_) => Err(at(number, Refusal::NotMember)),
     }
 }

@@ -35,9 +35,11 @@ returns-in_err-other c =
     let f = file_of c.args.file.now in
     let some : f.second ≡ Some (base_of c.in-Some.second) = ap (option_map base_of) c.in-Some.is in
     let here : c.saturating_add-number.result ≡ second_record c.args.first f = c.saturating_add-number.ensures ∙ ap (record_at c.args.first) c.count.ensures in
-    rw refused
-    (second_wrong c.args.first f (contents c.args.store.now) c.args.sequent.now c.args.buffer.now (frame_means c.in_ok-frame.frame) c.in_ok-frame.ensures (base_of c.in-Some.second) c.saturating_add-number.result c.in_err-other.field-0.0 some here
-    c.in_err-other.ensures, refl)
+    rw refused (
+      second_wrong c.args.first f (contents c.args.store.now) c.args.sequent.now c.args.buffer.now (frame_means c.in_ok-frame.frame) c.in_ok-frame.ensures (base_of c.in-Some.second) c.saturating_add-number.result c.in_err-other.field-0.0 some here
+          c.in_err-other.ensures,
+      refl,
+    )
 
 pub returns-in-Ok : goal.returns-in-Ok
 returns-in-Ok c =
