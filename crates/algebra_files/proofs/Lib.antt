@@ -4,3 +4,4 @@ pub mod Blaming
 pub mod Widening
 pub mod Standing
 pub mod Answering
+pub mod Settling

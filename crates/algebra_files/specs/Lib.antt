@@ -4,3 +4,4 @@ pub mod Meant
 pub mod Faults
 pub mod Outcomes
 pub mod Blame
+pub mod Theorems
