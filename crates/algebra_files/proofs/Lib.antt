@@ -5,3 +5,4 @@ pub mod Widening
 pub mod Standing
 pub mod Answering
 pub mod Settling
+pub mod Agreeing

@@ -16,7 +16,6 @@ use Rattle.algebra_files.specs.Faults.{record_at, second_record, layer_record, v
 use Rattle.algebra_files.specs.Files.{Base, File, written}
 use Rattle.algebra_files.specs.Meant.{Loads, Paired, Founds, Layered, Means, Elements, LastFor}
 use Rattle.algebra_files.specs.Reading.{file_in}
-use Rattle.algebra_files.specs.Theorems.{Settled}
 use Rattle.algebra_files.proofs.Written.{read_back}
 
 pub one_file_lem : (f g : File) → written f ≡ written g → f ≡ g
@@ -81,7 +80,7 @@ stranger_one m v p q a b =
 last_one : (vs : List (ℕ × ℕ)) (letter k j : ℕ) → LastFor vs letter k → LastFor vs letter j → k ≡ j
 last_one vs letter k j a b = only k j (λ h. a.after j h b.within b.here) (λ h. b.after k h a.within a.here)
 
-elements_one : (bottom : ℕ) (vs : List (ℕ × ℕ)) (v w : List ℕ) → Elements bottom vs v → Elements bottom vs w → v ≡ w
+pub elements_one : (bottom : ℕ) (vs : List (ℕ × ℕ)) (v w : List ℕ) → Elements bottom vs v → Elements bottom vs w → v ≡ w
 elements_one bottom vs v w a b =
     same_number_lists v w (a.all ∙ sym b.all) (λ i h. let small : i < 26 = omega (arith, h, a.all) in a.each i small ∙ sym (b.each i small))
 
@@ -155,7 +154,7 @@ module _ (first : ℕ) (f : File) where
   large_alone b m n k q loads is second large (FileFault.too_large c o j loads_too is_too second_too large_too) = (refl, refl)
   large_alone b m n k q loads is second large (FileFault.above o i p founded fault) = absurd (small_not f b m n o loads is second large founded)
 
-  one_fault_at : (n k : ℕ) (r q : Refusal) → FileFault first f n r → FileFault first f k q → (n ≡ k) × (r ≡ q)
+  pub one_fault_at : (n k : ℕ) (r q : Refusal) → FileFault first f n r → FileFault first f k q → (n ≡ k) × (r ≡ q)
   one_fault_at n k r q (FileFault.first_base p u) other = first_alone k p q u other
   one_fault_at n k r q (FileFault.second_base b p l is u) other = second_alone b k p q l is u other
   one_fault_at n k r q (FileFault.too_large b m o loads is second large) other = large_alone b m o k q loads is second large other
@@ -173,7 +172,7 @@ module _ (first : ℕ) (f : File) where
   no_layer m k v s n r layered elements members (LayerFault.letter o i p layered_too fault) =
       no_letter m v (values_record s f.layer) i p elements members (subst (λ x. LetterFault x f.values (values_record s f.layer) i p) (layered_one k f.layer o m layered_too layered) fault)
 
-  no_fault : (m : Meaning) (v : List ℕ) (n : ℕ) (r : Refusal) → Means f m → Elements m.bottom f.values v → ByMembers m v → FileFault first f n r → ⊥
+  pub no_fault : (m : Meaning) (v : List ℕ) (n : ℕ) (r : Refusal) → Means f m → Elements m.bottom f.values v → ByMembers m v → FileFault first f n r → ⊥
   no_fault m v n r means elements members (FileFault.first_base p u) = loadable_not f.first.worlds f.first.pairs p (first_stands f.first f.second means.below means.founded) u
   no_fault m v n r means elements members (FileFault.second_base b p l is u) =
       loadable_not b.worlds b.pairs p (pair_of f.first f.second b means.below is means.founded).right_is.loadable u
@@ -181,6 +180,3 @@ module _ (first : ℕ) (f : File) where
   no_fault m v n r means elements members (FileFault.above o i p founded fault) =
       no_layer m means.below v (layer_record first f) i p means.layered elements members
       (subst (λ x. LayerFault x f.layer f.values (layer_record first f) i p) (founds_one f.first f.second o means.below founded means.founded) fault)
-
-pub settled : Settled
-settled = record { one_file = one_file_lem; one_algebra = one_algebra_lem; one_fault = one_fault_at; not_both = no_fault }

@@ -1,4 +1,4 @@
-use Rattle.algebra_files.proofs.Settling.{settled}
+use Rattle.algebra_files.proofs.Agreeing.{settled}
 use Rattle.algebra_files.proofs.theorems.files_are_settled.Goals as goal
 
 pub returns : goal.returns
