@@ -9,6 +9,8 @@ mod file;
 mod letters;
 mod read;
 mod refuse;
+#[cfg(test)]
+mod tests;
 pub mod theorems;
 pub mod weigh;
 mod weigh_in;
