@@ -1,0 +1,7 @@
+pub mod Files
+pub mod Reading
+pub mod Meant
+pub mod Faults
+pub mod Outcomes
+pub mod Blame
+pub mod Theorems

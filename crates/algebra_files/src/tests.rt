@@ -1,0 +1,88 @@
+use crate::weigh::weigh_in_file;
+use crate::wrong::Unweighed;
+use answers::fault::{Fault, Reason};
+use entries::entry::Entry;
+use fitch::mode::Mode;
+use formulas::store::Store;
+use grammar::node::Node;
+use heyting::refusal::Refusal;
+use ledger::sequent::{MOST_PREMISES, Sequent};
+use std::alloc::Global;
+use std::test::Fail;
+use verdicts::verdict::Verdict;
+
+const P: usize = 16;
+
+// The record of the first entry.
+const FIRST: usize = 8;
+
+// From p follows (q>p).
+fn weighed(heap: Global, entries: &[Entry<usize>]) -> Result<Result<Verdict, Unweighed>, Fail> {
+    let mut store = Store::new(vec![in heap; Node::Falsum; 28]?).map_err(
+        grammar::refusal::Refusal::from,
+    )?;
+    let conclusion = store.read(b"(q>p)")?;
+    let mut places = [0; MOST_PREMISES];
+    places[0] = P;
+    let sequent = Sequent {
+        mode: Mode::Constructive,
+        places,
+        count: 1,
+        conclusion,
+    };
+    let mut values = [0; 28];
+    Ok(weigh_in_file(heap, &sequent, &store, entries, FIRST, &mut values))
+}
+
+fn holds(meet: u32, conclusion: u32) -> Result<Verdict, Unweighed> {
+    Ok(Verdict {
+        meet,
+        conclusion,
+        holds: true,
+    })
+}
+
+fn fault(record: usize, refusal: Refusal) -> Result<Verdict, Unweighed> {
+    Err(Unweighed::At(Fault::At(record, Reason::Algebra(refusal))))
+}
+
+#[test]
+fn verdicts(rt: HostRuntime) -> Result<(), Fail> {
+    let stages = [
+        Entry::Base(2),
+        Entry::Pair(0, 1),
+        Entry::Value(b'p', 1),
+        Entry::Value(b'p', 2),
+    ];
+    assert_eq!(rt; weighed(rt.alloc(), &stages)?, holds(2, 3));
+    let squares = [Entry::Base(1), Entry::Base(1), Entry::Nucleus(2)];
+    assert_eq!(rt; weighed(rt.alloc(), &squares)?, holds(2, 3));
+    Ok(())
+}
+
+#[test]
+fn faults(rt: HostRuntime) -> Result<(), Fail> {
+    let heap = rt.alloc();
+    let letter = [Entry::Base(2), Entry::Pair(0, 1), Entry::Value(b'p', 1)];
+    assert_eq!(rt;
+        weighed(heap, &letter)?,
+        fault(10, Refusal::LetterNotMember(16))
+    );
+    let pair = [
+        Entry::Base(2),
+        Entry::Pair(0, 1),
+        Entry::Base(2),
+        Entry::Pair(0, 1),
+        Entry::Pair(0, 2),
+    ];
+    assert_eq!(rt; weighed(heap, &pair)?, fault(12, Refusal::NoSuchWorld(2)));
+    let span = [Entry::Base(12), Entry::Base(12), Entry::Value(b'p', 1)];
+    assert_eq!(rt; weighed(heap, &span)?, fault(9, Refusal::SpanTooLarge));
+    let layer = [Entry::Base(2), Entry::Pair(0, 1), Entry::Nucleus(1)];
+    assert_eq!(rt; weighed(heap, &layer)?, fault(10, Refusal::NotMember));
+    assert_eq!(rt;
+        weighed(heap, &[Entry::Close])?,
+        Err(Unweighed::At(Fault::At(FIRST, Reason::Form(1))))
+    );
+    Ok(())
+}
