@@ -1,12 +1,12 @@
--- Where the gathering ends.
+-- How many records come before the first of some kind.
 use Rattle.std.proofs.Common.{◌≡◌, ℕ, ◌+◌, ◌≤◌, Bool, true, false, cond, not, nat_lt, ltb-false, List, map, length, position, Some, None, refl, sym, ◌∙◌, arith}
 use Rattle.std.specs.List.{position_or_len}
 use Rattle.std.specs.Option.{unwrap_or}
 use Rattle.std.proofs.lemmas.List.Sums.{prefix_len-le-length}
 use Rattle.std.proofs.lemmas.List.Recursion.{is_position_or_len}
+use Rattle.entries.specs.Entries.{Said}
 use Rattle.entries.specs.declared.entry.Entry.{Entry}
 use Rattle.readings.specs.Answers.{stored}
-use Rattle.scripts.specs.Proofs.{acts}
 
 turned : (b : Bool) (n : ℕ) → cond (not b) (1 + n) 0 ≡ cond b 0 (1 + n)
 turned true n = refl
@@ -23,8 +23,9 @@ module _ {A : Type 0} (p : A → Bool) where
       at true less = refl
       at false not_less = omega (arith, at_most xs, ltb-false (position_or_len p xs) (length xs) not_less)
 
-pub front_counted : (es : List (Entry ℕ)) → unwrap_or (position (λ e. acts (stored e)) es) (length es) ≡ position_or_len acts (map stored es)
-front_counted es = counted (λ e. acts (stored e)) es ∙ sym (is_position_or_len (λ xs. position_or_len acts (map stored xs)) (λ e. acts (stored e)) refl (λ x xs. turned (acts (stored x)) _) es)
+-- the records before the first of some kind are counted
+pub first_counted : (q : Said ℕ → Bool) (es : List (Entry ℕ)) → unwrap_or (position (λ e. q (stored e)) es) (length es) ≡ position_or_len q (map stored es)
+first_counted q es = counted (λ e. q (stored e)) es ∙ sym (is_position_or_len (λ xs. position_or_len q (map stored xs)) (λ e. q (stored e)) refl (λ x xs. turned (q (stored x)) _) es)
 
-pub front_within : (es : List (Entry ℕ)) → position_or_len acts (map stored es) ≤ length es
-front_within es = omega (arith, at_most (λ e. acts (stored e)) es, is_position_or_len (λ xs. position_or_len acts (map stored xs)) (λ e. acts (stored e)) refl (λ x xs. turned (acts (stored x)) _) es)
+pub first_within : (q : Said ℕ → Bool) (es : List (Entry ℕ)) → position_or_len q (map stored es) ≤ length es
+first_within q es = omega (arith, at_most (λ e. q (stored e)) es, is_position_or_len (λ xs. position_or_len q (map stored xs)) (λ e. q (stored e)) refl (λ x xs. turned (q (stored x)) _) es)

@@ -46,7 +46,7 @@ fn first_act(entries: &[Entry<usize>]) -> Option<usize>
 }
 
 // How many records come before the first that ends the gathering.
-#[tactic(auto, using(crate::proofs::Fronts::front_counted, crate::proofs::Fronts::front_within))]
+#[tactic(auto, using(crate::proofs::Fronts::first_within))]
 fn count_front(entries: &[Entry<usize>]) -> usize
     ensures place { result ≡ position_or_len acts (map stored entries.now) }
     ensures within { result ≤ length entries.now }
