@@ -41,11 +41,11 @@ fn write_formulas(
     let [place, others @ ..] = places else {
         return write_end(buffer);
     };
-    let mut text = [0; MOST_BYTES];
-    let length = spell(store, *place, &mut text)?;
-    let start = length + 1;
+    let mut scratch = [0; MOST_BYTES];
+    let field = spell(store, *place, &mut scratch)?;
+    let start = field.len() + 1;
     let (front, rest) = buffer.split_at_mut(start.min(buffer.len()));
     let end = start + write_formulas(store, others, rest)?;
-    write_field(&text[..length], front);
+    write_field(field, front);
     Ok(end)
 }
