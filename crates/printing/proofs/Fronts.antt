@@ -1,5 +1,5 @@
 -- A text is written in front of what is written behind it.
-use Rattle.std.proofs.Common.{◌≡◌, ℕ, ◌+◌, ◌-◌, ◌<◌, ◌≤◌, ◌↔◌, min, List, [], ◌∷◌, ◌++◌, length, drop, Ok, sym, ap, ◌∙◌, subst, append_assoc, arith, length-append, length-drop}
+use Rattle.std.proofs.Common.{◌≡◌, ℕ, ◌+◌, ◌<◌, min, List, [], ◌∷◌, ◌++◌, length, drop, Ok, sym, ap, ◌∙◌, append_assoc, arith, length-append, length-drop}
 use Rattle.std.proofs.lemmas.List.{drop-drop}
 use Rattle.answers.specs.Rows.{ended}
 use Rattle.printing.specs.Printing.{Printed}
@@ -17,8 +17,7 @@ module _ (StoredBehind : Type 0) (line before rest after : List ℕ) (n at m : �
   pub written : (Stored : Type 0) (text front : List ℕ) → (StoredBehind → Stored) → n ≡ length text → front ≡ text → Printed Stored (text ++ line) before (front ++ after) (Ok (n + m))
   written Stored text front whole long is =
       let left : drop (0 + length line) rest ≡ drop (0 + length (text ++ line)) before =
-          ap (drop (0 + length line)) cut ∙ drop-drop (0 + length line) at before ∙ ap (λ i. drop i before) (omega (arith, fits, length-append text line)) in
-      (
+      ap (drop (0 + length line)) cut ∙ drop-drop (0 + length line) at before ∙ ap (λ i. drop i before) (omega (arith, fits, length-append text line)) in (
         whole behind.0,
         omega (arith, behind.1, length-append text line),
         omega (arith, fits, behind.2, ap length cut, length-drop at before),

@@ -1,10 +1,7 @@
 -- The first item of a list, and those behind it.
-use Rattle.std.proofs.Common.{◌≡◌, ℕ, zero, suc, ◌+◌, ◌-◌, ◌<◌, List, [], ◌∷◌, ◌++◌, map, length, get_or, take, drop, ap, subst, arith, length-drop}
+use Rattle.std.proofs.Common.{◌≡◌, ℕ, zero, suc, ◌-◌, ◌<◌, List, [], ◌∷◌, map, length, get_or, take, drop, ap, subst, arith}
 use Rattle.std.proofs.lemmas.List.{take_all}
-use Rattle.grammar.specs.Formula.{Formula}
-use Rattle.grammar.specs.Writing.{text_at}
 use Rattle.verdicts.specs.Weighing.{AllBelow}
-use Rattle.answers.specs.Rows.{ended}
 
 -- the items behind the first, as a pattern binds them
 abbrev pub others : {A : Type 0} → List A → List A
@@ -13,9 +10,9 @@ others xs = take (length xs - 1) (drop 1 xs)
 others_are : {A : Type 0} (x : A) (xs : List A) → others (x ∷ xs) ≡ xs
 others_are x xs = take_all (length (x ∷ xs) - 1) xs (omega arith)
 
-pub first_text : (fs : List Formula) (places : List ℕ) → 0 < length places → (9 ∷ text_at fs (get_or places 0 0)) ++ ended (map (text_at fs) (others places)) ≡ ended (map (text_at fs) places)
-first_text fs [] h = absurd (omega (arith, h))
-first_text fs (p ∷ places) h = ap (λ ps. (9 ∷ text_at fs p) ++ ended (map (text_at fs) ps)) (others_are p places)
+pub first_of : {A : Type 0} (f : A → List ℕ) (d : A) (xs : List A) → 0 < length xs → f (get_or xs 0 d) ∷ map f (others xs) ≡ map f xs
+first_of f d [] h = absurd (omega (arith, h))
+first_of f d (x ∷ xs) h = ap (λ ys. f x ∷ map f ys) (others_are x xs)
 
 pub all_below : (places : List ℕ) (n : ℕ) → get_or places 0 0 < n → AllBelow (others places) n → AllBelow places n
 all_below [] n first behind = λ k h. absurd (omega (arith, h))

@@ -7,7 +7,7 @@ ghost use Rattle.answers.specs.Rows.{ended};
 ghost use Rattle.printing.specs.Endings.{last_fields, IsStored};
 ghost use Rattle.printing.specs.Printing.{Printed};
 
-use crate::field::write_field;
+use crate::field::{field_len, write_field};
 use crate::spelling::{MOST_BYTES, spell};
 use formulas::store::Store;
 use grammar::refusal::Refusal;
@@ -31,11 +31,7 @@ fn write_end(buffer: &mut [u8]) -> Result<usize, Refusal>
 }
 
 // Formulas, each behind a tab, and the last byte.
-fn write_formulas(
-    store: &Store,
-    places: &[usize],
-    buffer: &mut [u8],
-) -> Result<usize, Refusal>
+fn write_formulas(store: &Store, places: &[usize], buffer: &mut [u8]) -> Result<usize, Refusal>
     ensures { Printed (AllBelow places.now (length (contents store.now))) (ended (map (text_at (contents store.now)) places.now)) buffer.old buffer.new result }
 {
     let [place, others @ ..] = places else {
@@ -43,9 +39,21 @@ fn write_formulas(
     };
     let mut scratch = [0; MOST_BYTES];
     let field = spell(store, *place, &mut scratch)?;
-    let start = field.len() + 1;
+    let start = field_len(field);
     let (front, rest) = buffer.split_at_mut(start.min(buffer.len()));
     let end = start + write_formulas(store, others, rest)?;
     write_field(field, front);
     Ok(end)
+}
+
+impl Ending<'_> {
+    // The last fields, each behind a tab, and the last byte.
+    pub(crate) fn write(self, buffer: &mut [u8]) -> Result<usize, Refusal>
+        ensures { Printed (IsStored self.entry) (ended (last_fields self.entry)) buffer.old buffer.new result }
+    {
+        match self {
+            Ending::Nothing => write_end(buffer),
+            Ending::Formulas(store, places) => write_formulas(store, places, buffer),
+        }
+    }
 }

@@ -1,6 +1,13 @@
 // A field behind others.
 ghost use Rattle.std.specs.Prelude.{◌≡◌, ◌+◌, ◌∷◌, length};
 
+// How many bytes a tab and a field take.
+pub(crate) fn field_len(field: &[u8]) -> usize
+    ensures { result ≡ length field.now + 1 }
+{
+    field.len() + 1
+}
+
 // A tab and the field, which fill a buffer.
 pub(crate) fn write_field(field: &[u8], buffer: &mut [u8])
     requires { length buffer.old ≡ length field.now + 1 }
