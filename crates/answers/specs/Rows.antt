@@ -1,7 +1,6 @@
 -- The line that is printed for an answer.
 use Rattle.std.specs.Prelude.{ℕ, if◌then◌else◌, List, [], ◌∷◌, ◌++◌, map, codes}
 use Rattle.std.specs.Fmt.{decimal}
-use Rattle.std.specs.List.{join_with_byte}
 use Rattle.grammar.specs.Formula.{Formula}
 use Rattle.grammar.specs.Writing.{text_at}
 use Rattle.fitch.specs.declared.mode.Mode.{Mode}
@@ -14,9 +13,15 @@ use Rattle.answers.specs.declared.fault.Fault.{Fault}
 use Rattle.answers.specs.declared.fault.Layer.{Layer}
 use Rattle.answers.specs.declared.fault.Layer.TheVariants as layers
 
+-- fields, each behind a tab, and byte 10
+abbrev pub ended : List (List ℕ) → List ℕ
+ended [] = 10 ∷ []
+ended (f ∷ fs) = 9 ∷ f ++ ended fs
+
 -- fields parted by tabs, and byte 10
 abbrev pub row : List (List ℕ) → List ℕ
-row fields = join_with_byte 9 fields ++ 10 ∷ []
+row [] = 10 ∷ []
+row (f ∷ fs) = f ++ ended fs
 
 abbrev pub mode_letter : Mode → List ℕ
 mode_letter Constructive = codes "I"
