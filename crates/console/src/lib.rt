@@ -1,9 +1,12 @@
 // Standard input and output, as the programs use them.
 #![tactic(auto)]
+
 ghost use Rattle.std.specs.Prelude.{◌≤◌, length, IfOk};
 
-use std::io::{BufRead, Input, Print, Read, Write};
+pub mod limits;
+
 use std::io;
+use std::io::{BufRead, Input, Print, Read, Write};
 
 // Reads until the buffer is full or the input ends, and answers how many bytes were read.
 pub fn read_input(rt: &impl Input, buffer: &mut [u8]) -> io::Result<usize>
