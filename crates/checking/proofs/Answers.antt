@@ -52,12 +52,12 @@ one_places fs once (p ∷ ps) (q ∷ qs) within also e =
     (one_place fs once p q (within 0 (omega arith)) (also 0 (omega arith)) (ap (first_or (formula_at fs p)) e))
     (one_places fs once ps qs (λ k lt. within (suc k) (omega (arith, lt))) (λ k lt. also (suc k) (omega (arith, lt))) (ap rest_of e))
 
-within_places : {mode : Mode} {fs : List Formula} {h : History} {s : Sequent} → SequentOf mode fs h s → (k : ℕ) → k < length (premise_places s) → get_or (premise_places s) k 0 < length fs
+pub within_places : {mode : Mode} {fs : List Formula} {h : History} {s : Sequent} → SequentOf mode fs h s → (k : ℕ) → k < length (premise_places s) → get_or (premise_places s) k 0 < length fs
 within_places {fs = fs} {s = s} q k lt =
     let few : k < s.count = omega (arith, lt, length-take s.count s.places) in
     subst (λ p. p < length fs) (sym (get_or-take s.count s.places k 0 few)) (q.premises_in k few)
 
-same_shown : {mode : Mode} {fs : List Formula} {h : History} (n : ℕ) → Once fs → (c d : Checked) → Concluded mode fs h n (Ok c) → Concluded mode fs h n (Ok d) → SameShown c d
+pub same_shown : {mode : Mode} {fs : List Formula} {h : History} (n : ℕ) → Once fs → (c d : Checked) → Concluded mode fs h n (Ok c) → Concluded mode fs h n (Ok d) → SameShown c d
 same_shown {fs = fs} n once c d p q = record {
   mode = p.1.mode_is ∙ sym q.1.mode_is;
   premises = one_places fs once (premise_places c.sequent) (premise_places d.sequent) (within_places p.1) (within_places q.1) (p.1.premises_are ∙ sym q.1.premises_are);
@@ -84,19 +84,19 @@ module _ (fs : List Formula) (slice : ℕ) (xs : List (Said ℕ)) (once : Once f
   refused_at (At n (reasons.Derivation e)) p = (n, e, refl, p)
   refused_at (At n (reasons.Algebra refusal)) p = absurd p
 
-  same_history : (h k : History) → RunsAll fs slice xs (Ok h) → RunsAll fs slice xs (Ok k) → h ≡ k
+  pub same_history : (h k : History) → RunsAll fs slice xs (Ok h) → RunsAll fs slice xs (Ok k) → h ≡ k
   same_history h k p q = ap (history_or h) (runs_all fs slice xs (Ok h) (Ok k) p q)
 
   never_both : (h : History) (n : ℕ) (e : Refusal) → RunsAll fs slice xs (Ok h) → RunsAll fs slice xs (Err (n, e)) → ⊥
   never_both h n e p q = not_both (runs_all fs slice xs (Ok h) (Err (n, e)) p q)
 
-  shown_or_refused : (c : Checked) (u : Fault) → Derives fs slice xs (Ok c) → Derives fs slice xs (Err u) → ⊥
+  pub shown_or_refused : (c : Checked) (u : Fault) → Derives fs slice xs (Ok c) → Derives fs slice xs (Err u) → ⊥
   shown_or_refused c u p q =
       let r = refused_at u q in
       ⊎_elim (λ runs. never_both p.0 r.0 r.1 p.1 runs)
       (λ late. (one_answers.sequent p.0).apart r.1 p.2.0 (subst (λ k. Refused (sequent_checks k) r.1) (sym (same_history p.0 late.1.0 p.1 late.1.1)) late.1.2)) r.3
 
-  same_fault : (u v : Fault) → Derives fs slice xs (Err u) → Derives fs slice xs (Err v) → u ≡ v
+  pub same_fault : (u v : Fault) → Derives fs slice xs (Err u) → Derives fs slice xs (Err v) → u ≡ v
   same_fault u v p q =
       let r = refused_at u p in
       let t = refused_at v q in

@@ -1,1 +1,3 @@
 pub mod Answering
+pub mod Alike
+pub mod Settling

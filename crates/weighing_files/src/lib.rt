@@ -2,8 +2,10 @@
 //
 //   answer::Unanswered       why there is no verdict
 //   weigh::weigh_input       the verdict, or the first fault
+//   theorems                 what holds of every input
 #![tactic(auto)]
 
 pub mod answer;
 mod parts;
+pub mod theorems;
 pub mod weigh;
