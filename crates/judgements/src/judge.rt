@@ -13,7 +13,6 @@ use verdicts::weigh::weigh;
 use weighing::valuation::Valuation;
 
 // The verdict on a derivation in any algebra, by whatever calls it was written and sealed: if it is constructive, its sequent holds.
-// The derivation is lent, since a parameter by value whose records the caller gets back is not covered by the prover.
 pub fn judge<A: Algebra>(
     derivation: &Sealed,
     algebra: &A,

@@ -1,4 +1,4 @@
-// What a derivation is worth in an algebra: it is sealed, and its sequent is weighed.
+// What a derivation is worth in an algebra: the sequent of a sealed derivation, weighed.
 //
 //   refusal::Unjudged   why there is no verdict
 //   judge::judge        the verdict, whatever the derivation and the algebra

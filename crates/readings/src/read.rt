@@ -39,7 +39,7 @@ fn read_records(
     }
 }
 
-// What the records of an input say, each formula by its place in the store; or the first record that is wrong, by its number.
+// What the records of an input say, each formula by its place in the store; or that it is too long, the first record that is wrong, or that no memory is left.
 #[tactic(auto, using(crate::proofs::Going::still))]
 pub fn read_input(
     heap: Global,

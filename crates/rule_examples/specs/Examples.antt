@@ -20,4 +20,5 @@ pub record Examples : Type 0 where
   pub ex_falso : (q : Formula) → Fits ExFalso q (line falsum ∷ [])
   pub reductio : (p : Formula) → Fits Reductio p (box (negation p) falsum ∷ [])
   pub constructive : (rule : Rule) → (rule ≢ Reductio) → Serves Constructive rule
+  pub not_reductio : Serves Constructive Reductio → ⊥
   pub classical : (rule : Rule) → Serves Classical rule

@@ -1,6 +1,6 @@
-// The rules by example: what each of them permits at the least.
+// The rules by example: what each of them gives at the least.
 //
-//   theorems   each rule permits its example, and which rules a mode has
+//   theorems   each rule fits its example, and which rules a mode has
 #![tactic(auto)]
 
 pub mod theorems;

@@ -32,9 +32,12 @@ fn main(rt: HostRuntime) -> anyhow::Result<()> {
         Ok(verdict) => write_verdict(&verdict, &mut printed),
         Err(Unanswered::Faulty(fault)) => write_fault(&fault, &mut printed),
         Err(Unanswered::OutOfMemory) => return Err(anyhow::anyhow!("out of memory")),
-        Err(_) => return Err(anyhow::anyhow!("the values are more than there is room for")),
+        Err(_) => return Err(anyhow::anyhow!("the sequent can't be weighed")),
     };
-    let written = written.map_err(|_| anyhow::anyhow!("the answer is longer than any line"))?;
-    write_line(&rt, printed.get(..written).unwrap_or(&[]))?;
+    let written = written.map_err(|_| anyhow::anyhow!("the answer can't be written"))?;
+    let line = printed
+        .get(..written)
+        .ok_or(anyhow::anyhow!("the answer can't be written"))?;
+    write_line(&rt, line)?;
     Ok(())
 }
