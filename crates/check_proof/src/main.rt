@@ -10,11 +10,13 @@ use grammar::node::Node;
 use ledger::line::BLANK;
 use printing::checked::write_checked;
 use printing::fault::write_fault;
+use std::io;
+use std::io::Input;
 
 // Where nothing can be answered, the program ends with an error: input that can't be read, output that can't be written, no memory.
 fn main(rt: HostRuntime) -> anyhow::Result<()> {
     let mut input = vec![in rt.alloc(); 0; MOST_READ]?;
-    let length = read_input(&rt, &mut input)?;
+    let length = read_input(&mut rt.reader(), &mut input)?;
     let mut store = Store::new(vec![in rt.alloc(); Node::Falsum; RECORDS]?).map_err(
         |_| anyhow::anyhow!("too few records for a store"),
     )?;
@@ -29,6 +31,6 @@ fn main(rt: HostRuntime) -> anyhow::Result<()> {
     let line = printed
         .get(..written)
         .ok_or(anyhow::anyhow!("the answer can't be written"))?;
-    write_line(&rt, line)?;
+    write_line(&mut io::writer(&rt), line)?;
     Ok(())
 }

@@ -1,23 +1,25 @@
 // Standard input and output, as the programs use them.
 #![tactic(auto)]
 
-ghost use Rattle.std.specs.Prelude.{◌≤◌, length, IfOk};
+ghost use Rattle.std.specs.Io.KnownBytes.{Appends, Consumes, IsAtEnd};
+ghost use Rattle.std.specs.Prelude.{◌<◌, ◌≤◌, length, take, IfOk, OnOk};
 
 pub mod limits;
 
 use std::io;
-use std::io::{BufRead, Input, Print, Read, Write};
+use std::io::{Read, Write};
 
 // Reads until the buffer is full or the input ends, and answers how many bytes were read.
-pub fn read_input(rt: &impl Input, buffer: &mut [u8]) -> io::Result<usize>
-    ensures { IfOk result (λ n. n ≤ length buffer.new) }
+pub fn read_input<R: Read>(reader: &mut R, buffer: &mut [u8]) -> io::Result<usize>
+    ensures bound { IfOk result (λ n. n ≤ length buffer.new) }
+    ensures read { IfOk result (λ n. Consumes (R.remaining reader.old) (R.remaining reader.new) (take n buffer.new)) }
+    ensures end { IfOk result (λ n. n < length buffer.new → IsAtEnd (R.remaining reader.new)) }
 {
-    let mut reader = rt.reader();
     let mut filled = 0;
     while filled < buffer.len() {
         let count = reader.read(&mut buffer[filled..])?;
         if count == 0 {
-            break;
+            return Ok(filled);
         }
         filled += count;
     }
@@ -25,8 +27,9 @@ pub fn read_input(rt: &impl Input, buffer: &mut [u8]) -> io::Result<usize>
 }
 
 // Writes a line that a library call has put together.
-pub fn write_line(rt: &impl Print, line: &[u8]) -> io::Result<()> {
-    let mut writer = io::writer(rt);
+pub fn write_line<W: Write>(writer: &mut W, line: &[u8]) -> io::Result<()>
+    ensures { OnOk result (Appends (W.contents writer.old) (W.contents writer.new) line.now) }
+{
     writer.write_all(line)?;
     writer.flush()
 }

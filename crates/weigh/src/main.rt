@@ -8,13 +8,15 @@ use grammar::node::Node;
 use ledger::line::BLANK;
 use printing::fault::write_fault;
 use printing::verdict::write_verdict;
+use std::io;
+use std::io::Input;
 use weighing_files::answer::Unanswered;
 use weighing_files::weigh::weigh_input;
 
 // Where nothing can be answered, the program ends with an error: input that can't be read, output that can't be written, no memory.
 fn main(rt: HostRuntime) -> anyhow::Result<()> {
     let mut input = vec![in rt.alloc(); 0; MOST_READ]?;
-    let length = read_input(&rt, &mut input)?;
+    let length = read_input(&mut rt.reader(), &mut input)?;
     let mut store = Store::new(vec![in rt.alloc(); Node::Falsum; RECORDS]?).map_err(
         |_| anyhow::anyhow!("too few records for a store"),
     )?;
@@ -38,6 +40,6 @@ fn main(rt: HostRuntime) -> anyhow::Result<()> {
     let line = printed
         .get(..written)
         .ok_or(anyhow::anyhow!("the answer can't be written"))?;
-    write_line(&rt, line)?;
+    write_line(&mut io::writer(&rt), line)?;
     Ok(())
 }
