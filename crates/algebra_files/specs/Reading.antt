@@ -1,16 +1,12 @@
 -- Reading entries back: what they say part by part, each part as long as it goes.
 use Rattle.std.specs.Prelude.{ℕ, List, [], ◌∷◌, map, Some, None, Option}
 use Rattle.std.specs.Option.{option_map}
-use Rattle.entries.specs.Entries.{Said, said_by}
+use Rattle.entries.specs.Entries.{Said, stored}
 use Rattle.entries.specs.declared.entry.Entry.{Entry}
 use Rattle.algebra_files.specs.Files.{Base, File}
 use Rattle.algebra_files.specs.declared.file.Base.{Base as ABase}
 use Rattle.algebra_files.specs.declared.file.File.{File as AFile}
 use Rattle.algebra_files.specs.declared.read.Entries.{Entries}
-
--- what an entry of the code says
-abbrev pub stored : Entry ℕ → Said ℕ
-stored e = said_by (λ p. p) e
 
 abbrev pub to_come : Entries → List (Said ℕ)
 to_come e = map stored e.rest.now

@@ -1,8 +1,8 @@
 // Reads the entries of a file.
 ghost use Rattle.std.specs.Prelude.{◌≡◌, ℕ, [], ◌∷◌, map, MatchOption, MatchResult};
 ghost use Rattle.std.specs.Option.{option_map};
-ghost use Rattle.entries.specs.Entries.{Said};
-ghost use Rattle.algebra_files.specs.Reading.{stored, to_come, base_of, file_of, pairs_in, after_pairs, values_in, after_values, base_in, after_base, layer_in, after_layer, file_in};
+ghost use Rattle.entries.specs.Entries.{Said, stored};
+ghost use Rattle.algebra_files.specs.Reading.{to_come, base_of, file_of, pairs_in, after_pairs, values_in, after_values, base_in, after_base, layer_in, after_layer, file_in};
 ghost use Rattle.algebra_files.specs.declared.wrong.Unweighed.TheVariants.{OutOfMemory};
 
 use crate::file::{Base, File};

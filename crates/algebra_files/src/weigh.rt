@@ -4,7 +4,8 @@ ghost use Rattle.formulas.specs.Stores.{contents};
 ghost use Rattle.algebra_files.specs.Faults.{FileFault};
 ghost use Rattle.algebra_files.specs.Meant.{Means};
 ghost use Rattle.algebra_files.specs.Outcomes.{Outcome, WeighedInFile, Confirmed};
-ghost use Rattle.algebra_files.specs.Reading.{stored, file_of};
+ghost use Rattle.entries.specs.Entries.{stored};
+ghost use Rattle.algebra_files.specs.Reading.{file_of};
 
 use crate::file::File;
 use crate::read::read_file;

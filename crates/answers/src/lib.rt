@@ -1,8 +1,10 @@
 // What is answered to an input.
 //
-//   checked::Checked   what an accepted proof file shows
-//   fault::Fault       the first fault of an input, by record, layer, number and place
+//   checked::Checked         what an accepted proof file shows
+//   fault::Fault             the first fault of an input, by record, layer, number and place
+//   unanswered::Unanswered   why there is neither a sequent nor a verdict
 #![tactic(auto)]
 
 pub mod checked;
 pub mod fault;
+pub mod unanswered;

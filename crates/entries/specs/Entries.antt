@@ -35,3 +35,7 @@ said_by f (Base n) = Said.base n
 said_by f (Pair u v) = Said.pair u v
 said_by f (Nucleus e) = Said.nucleus e
 said_by f (Value a e) = Said.value a e
+
+-- what the code's record says, with its formula by its place in a store
+abbrev pub stored : Entry ℕ → Said ℕ
+stored e = said_by (λ p. p) e

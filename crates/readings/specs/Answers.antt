@@ -4,7 +4,7 @@ use Rattle.std.specs.declared.alloc.Global.{Global}
 use Rattle.grammar.specs.Formula.{Formula}
 use Rattle.records.specs.Limits.{most_input}
 use Rattle.records.specs.Pieces.{Piece, records}
-use Rattle.entries.specs.Entries.{Said, said_by}
+use Rattle.entries.specs.Entries.{Said, stored}
 use Rattle.entries.specs.declared.entry.Entry.{Entry}
 use Rattle.entries.specs.declared.turn.Format.{Format}
 use Rattle.entries.specs.declared.turn.Turn.{Turn}
@@ -12,9 +12,6 @@ use Rattle.entries.specs.declared.turn.Turn.TheVariants.{Start}
 use Rattle.readings.specs.Reading.{Reads, ReadsRecord}
 use Rattle.readings.specs.declared.wrong.Unread.{Unread}
 use Rattle.readings.specs.declared.wrong.Unread.TheVariants.{OutOfMemory, TooLong, At}
-
-abbrev pub stored : Entry ℕ → Said ℕ
-stored e = said_by (λ p. p) e
 
 abbrev pub stored_next : Entry ℕ × Turn → Said ℕ × Turn
 stored_next r = (stored r.0, r.1)

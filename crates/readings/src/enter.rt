@@ -4,7 +4,8 @@ ghost use Rattle.entries.specs.Forms.{onto};
 ghost use Rattle.records.specs.Cursors.{piece};
 ghost use Rattle.formulas.specs.Stores.{capacity, contents, OthersStay};
 ghost use Rattle.readings.specs.Reading.{Enters, ReadsRecord};
-ghost use Rattle.readings.specs.Answers.{stored, stored_next, ReadsNumbered};
+ghost use Rattle.entries.specs.Entries.{stored};
+ghost use Rattle.readings.specs.Answers.{stored_next, ReadsNumbered};
 
 use crate::wrong::{Unread, Wrong};
 use entries::entry::Entry;

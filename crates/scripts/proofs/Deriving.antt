@@ -17,13 +17,12 @@ use Rattle.derivations.specs.Sheets.{formulas_of, Leaves}
 use Rattle.derivations.specs.declared.gathering.Gathering.{Gathering}
 use Rattle.derivations.specs.declared.open.Open.{Open}
 use Rattle.derivations.specs.declared.sealed.Sealed.{Sealed}
-use Rattle.entries.specs.Entries.{Said}
+use Rattle.entries.specs.Entries.{Said, stored}
 use Rattle.entries.specs.declared.entry.Entry.{Entry}
 use Rattle.answers.specs.declared.checked.Checked.{Checked}
 use Rattle.answers.specs.declared.fault.Fault.{Fault}
 use Rattle.answers.specs.declared.fault.Fault.TheVariants.{TooLong, At}
 use Rattle.answers.specs.declared.fault.Reason.TheVariants as reasons
-use Rattle.readings.specs.Answers.{stored}
 use Rattle.scripts.proofs.Running.{same_act_steps}
 use Rattle.scripts.specs.Proofs.{acts, mode_of, front, back, Concluded, Derives}
 use Rattle.scripts.specs.Runs.{premise_steps, act_steps, Runs, OfDerivation}

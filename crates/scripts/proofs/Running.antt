@@ -8,7 +8,7 @@ use Rattle.derivations.specs.Derived.{Leaves as LeavesOpen}
 use Rattle.derivations.specs.Sheets.{formulas_of, Leaves}
 use Rattle.derivations.specs.declared.open.Open.{Open}
 use Rattle.derivations.specs.declared.sheet.Sheet.{Sheet}
-use Rattle.entries.specs.Entries.{Said}
+use Rattle.entries.specs.Entries.{Said, stored}
 use Rattle.answers.specs.declared.fault.Fault.{Fault}
 use Rattle.answers.specs.declared.fault.Fault.TheVariants.{TooLong, At}
 use Rattle.answers.specs.declared.fault.Reason.TheVariants as reasons
@@ -16,7 +16,6 @@ use Rattle.entries.specs.declared.entry.Entry.{Entry}
 use Rattle.entries.specs.declared.entry.Entry.TheVariants.{Mode}
 use Rattle.fitch.specs.declared.mode.Mode.TheVariants.{Constructive}
 use Rattle.formulas.specs.Stores.{contents}
-use Rattle.readings.specs.Answers.{stored}
 use Rattle.scripts.specs.Runs.{Steps, premise_steps, act_steps, Runs, Ran, RanOne}
 
 pub nothing_left : (s : Sheet) → Leaves s s

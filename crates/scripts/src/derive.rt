@@ -5,7 +5,7 @@ ghost use Rattle.formulas.specs.Stores.{contents};
 ghost use Rattle.grammar.specs.Contents.{formula_at};
 ghost use Rattle.ledger.specs.Sequents.{premise_places};
 ghost use Rattle.soundness.specs.Soundness.{Entails};
-ghost use Rattle.readings.specs.Answers.{stored};
+ghost use Rattle.entries.specs.Entries.{stored};
 ghost use Rattle.fitch.specs.History.{History};
 ghost use Rattle.derivations.specs.Finished.{mode_by, Finished, formulas_by};
 ghost use Rattle.scripts.specs.Proofs.{acts, mode_of, Concluded, Derives};

@@ -5,11 +5,11 @@ use Rattle.std.proofs.lemmas.List.{length-map}
 use Rattle.grammar.specs.Formula.{Formula}
 use Rattle.fitch.specs.declared.mode.Mode.TheVariants.{Constructive}
 use Rattle.records.specs.Limits.{most_input}
-use Rattle.entries.specs.Entries.{Said}
+use Rattle.entries.specs.Entries.{Said, stored}
 use Rattle.entries.specs.declared.entry.Entry.{Entry}
 use Rattle.entries.specs.declared.turn.Format.{Format}
 use Rattle.entries.specs.declared.turn.Format.TheVariants.{Weighing}
-use Rattle.readings.specs.Answers.{stored, InputRead}
+use Rattle.readings.specs.Answers.{InputRead}
 use Rattle.soundness.specs.Soundness.{Entails}
 use Rattle.answers.specs.declared.checked.Checked.{Checked}
 use Rattle.scripts.specs.Proofs.{mode_of, Derives}

@@ -1,7 +1,7 @@
 // The records of the two files.
 ghost use Rattle.std.specs.Prelude.{◌≡◌, ◌≤◌, length, map, position};
 ghost use Rattle.std.specs.List.{position_or_len};
-ghost use Rattle.readings.specs.Answers.{stored};
+ghost use Rattle.entries.specs.Entries.{stored};
 ghost use Rattle.weighing_files.specs.Weighing.{parts, proof_part, algebra_part};
 
 use entries::entry::Entry;

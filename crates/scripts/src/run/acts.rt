@@ -4,8 +4,7 @@ ghost use Rattle.fitch.specs.Checks.{Accepted, Refused};
 ghost use Rattle.fitch.specs.History.{History, step as next_step};
 ghost use Rattle.derivations.specs.Derived.{mode_in, Derived, Leaves, checks_of_step};
 ghost use Rattle.derivations.specs.Sheets.{formulas_of, formula_of};
-ghost use Rattle.entries.specs.Entries.{cited};
-ghost use Rattle.readings.specs.Answers.{stored};
+ghost use Rattle.entries.specs.Entries.{cited, stored};
 ghost use Rattle.scripts.specs.Runs.{act_steps, Ran, RanOne};
 
 use answers::fault::{Fault, Reason};

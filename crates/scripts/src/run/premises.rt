@@ -3,7 +3,7 @@ ghost use Rattle.std.specs.Prelude.{◌≡◌, ◌+◌, ◌<◌, ◌≤◌, ◌^
 ghost use Rattle.fitch.specs.History.{History};
 ghost use Rattle.derivations.specs.Gathered.{Gathered};
 ghost use Rattle.derivations.specs.Sheets.{formulas_of, Leaves};
-ghost use Rattle.readings.specs.Answers.{stored};
+ghost use Rattle.entries.specs.Entries.{stored};
 ghost use Rattle.scripts.specs.Runs.{premise_steps, Ran, RanOne};
 
 use answers::fault::{Fault, Reason};

@@ -3,7 +3,8 @@ use Rattle.std.specs.Option.{option_map}
 use Rattle.formulas.specs.Stores.{contents}
 use Rattle.algebra_files.specs.Faults.{FileFault}
 use Rattle.algebra_files.specs.Meant.{Means}
-use Rattle.algebra_files.specs.Reading.{stored, file_of, file_in}
+use Rattle.entries.specs.Entries.{stored}
+use Rattle.algebra_files.specs.Reading.{file_of, file_in}
 use Rattle.algebra_files.proofs.Answering.{read, unread, confirmed}
 use Rattle.algebra_files.proofs.weigh.weigh_in_file.Goals as goal
 

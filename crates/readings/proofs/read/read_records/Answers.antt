@@ -3,7 +3,7 @@ use Rattle.std.proofs.lemmas.Grind.{common_steps}
 use Rattle.formulas.specs.Stores.{capacity, contents}
 use Rattle.records.specs.Cursors.{records_to_come, piece}
 use Rattle.entries.specs.Turns.{complete}
-use Rattle.readings.specs.Answers.{stored}
+use Rattle.entries.specs.Entries.{stored}
 use Rattle.readings.specs.Reading.{ReadsRecord}
 use Rattle.readings.specs.Answers.{ReadsNumbered}
 use Rattle.std.proofs.lemmas.List.{map-append}

@@ -1,7 +1,7 @@
 use Rattle.std.proofs.Common.{map, length, vec_len}
 use Rattle.formulas.specs.Stores.{capacity, contents, OthersStay}
 use Rattle.records.specs.Cursors.{records_to_come}
-use Rattle.readings.specs.Answers.{stored}
+use Rattle.entries.specs.Entries.{stored}
 use Rattle.readings.proofs.Going.{SoFar}
 use Rattle.readings.proofs.read.read_records.Given as goal
 

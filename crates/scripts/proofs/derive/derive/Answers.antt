@@ -6,7 +6,7 @@ use Rattle.fitch.specs.History.{begin}
 use Rattle.derivations.specs.Derived.{Derived}
 use Rattle.derivations.specs.Gathered.{Gathered}
 use Rattle.derivations.specs.Sheets.{formulas_of}
-use Rattle.readings.specs.Answers.{stored}
+use Rattle.entries.specs.Entries.{stored}
 use Rattle.scripts.specs.Proofs.{mode_of, front, back, Concluded}
 use Rattle.scripts.specs.Runs.{act_steps, Ran}
 use Rattle.scripts.proofs.Deriving.{front_is, back_is, gathered_fault, acted_fault, concluded, fresh_steps, open_steps, sealed_mode, sealed_formulas}

@@ -1,6 +1,6 @@
 use Rattle.std.proofs.Common.{◌+◌, map, drop, sym, ap, ◌∙◌}
 use Rattle.std.proofs.lemmas.List.{drop-drop, drop-map, take_rest}
-use Rattle.readings.specs.Answers.{stored}
+use Rattle.entries.specs.Entries.{stored}
 use Rattle.weighing_files.proofs.parts.split.Goals as goal
 
 pub returns-in-len1-up-clause-algebra : goal.returns-in-len1-up-clause-algebra

@@ -2,7 +2,7 @@ use Rattle.std.proofs.Common.{◌≡◌, map, length, Ok, Err, ap, ◌∙◌, ar
 use Rattle.std.proofs.lemmas.Grind.{common_steps}
 use Rattle.formulas.specs.Stores.{capacity, contents}
 use Rattle.entries.specs.declared.turn.Format.TheVariants.{Weighing}
-use Rattle.readings.specs.Answers.{stored}
+use Rattle.entries.specs.Entries.{stored}
 use Rattle.weighing_files.specs.Weighing.{unweighed, proof_part, algebra_part}
 use Rattle.weighing_files.proofs.Answering.{says_read, both, holding, refused}
 use Rattle.weighing_files.proofs.weigh.weigh_input.Goals as goal

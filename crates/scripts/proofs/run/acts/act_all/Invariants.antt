@@ -2,7 +2,7 @@ use Rattle.std.proofs.Common.{length, map}
 use Rattle.fitch.specs.History.{History}
 use Rattle.derivations.specs.Derived.{mode_in, Derived, Leaves}
 use Rattle.derivations.specs.Sheets.{formulas_of}
-use Rattle.readings.specs.Answers.{stored}
+use Rattle.entries.specs.Entries.{stored}
 use Rattle.scripts.specs.Runs.{act_steps}
 use Rattle.scripts.proofs.Running.{SoFar}
 use Rattle.scripts.proofs.run.acts.act_all.Given as goal

@@ -3,7 +3,7 @@ use Rattle.std.proofs.lemmas.Grind.{common_steps}
 use Rattle.std.proofs.lemmas.List.{length-map}
 use Rattle.derivations.specs.Gathered.{Gathered}
 use Rattle.derivations.specs.Sheets.{formulas_of}
-use Rattle.readings.specs.Answers.{stored}
+use Rattle.entries.specs.Entries.{stored}
 use Rattle.scripts.specs.Runs.{premise_steps, RanOne}
 use Rattle.scripts.proofs.Running.{leave_on, no_entry, one_more, stopped_by, all_run, at_hand, same_premise_steps}
 use Rattle.scripts.proofs.run.premises.gather.Goals as goal

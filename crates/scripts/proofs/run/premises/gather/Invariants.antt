@@ -2,7 +2,7 @@ use Rattle.std.proofs.Common.{length, map}
 use Rattle.fitch.specs.History.{History}
 use Rattle.derivations.specs.Gathered.{Gathered}
 use Rattle.derivations.specs.Sheets.{formulas_of, Leaves}
-use Rattle.readings.specs.Answers.{stored}
+use Rattle.entries.specs.Entries.{stored}
 use Rattle.scripts.specs.Runs.{premise_steps}
 use Rattle.scripts.proofs.Running.{SoFar}
 use Rattle.scripts.proofs.run.premises.gather.Given as goal

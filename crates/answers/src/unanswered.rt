@@ -1,0 +1,25 @@
+// Why there is no answer of the kind that is asked for.
+ghost use Rattle.std.specs.Prelude.{◌≡◌};
+ghost use Rattle.answers.specs.declared.unanswered.Unanswered.TheVariants.{Faulty};
+
+use crate::fault::Fault;
+
+#[derive(Clone, Copy, PartialEq, Debug)]
+pub enum Unanswered {
+    // The input has more records than the slice for them.
+    ShortEntries,
+    // A premise or the conclusion stands at a place that holds no formula.
+    NotStored,
+    // The buffer is shorter than the store's count.
+    ShortBuffer,
+    // The input has a fault, the first.
+    Faulty(Fault),
+}
+
+impl From<Fault> for Unanswered {
+    ghost from_gives = { λ fault why. why ≡ Faulty fault };
+
+    fn from(fault: Fault) -> Unanswered {
+        Unanswered::Faulty(fault)
+    }
+}
