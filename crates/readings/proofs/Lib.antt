@@ -1,1 +1,3 @@
 pub mod Going
+pub mod Settling
+pub mod Inputs

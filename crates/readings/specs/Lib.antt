@@ -1,2 +1,3 @@
 pub mod Reading
+pub mod Settled
 pub mod Answers

@@ -7,7 +7,7 @@ ghost use Rattle.readings.specs.Reading.{Enters, ReadsRecord};
 ghost use Rattle.entries.specs.Entries.{stored};
 ghost use Rattle.readings.specs.Answers.{stored_next, ReadsNumbered};
 
-use crate::wrong::{Unread, Wrong};
+use answers::fault::{Fault, Reason};
 use entries::entry::Entry;
 use entries::parse::parse;
 use entries::turn::{Format, Turn};
@@ -40,12 +40,12 @@ fn read_one(
     format: Format,
     turn: Turn,
     source: Record<'_>,
-) -> Result<(Entry<usize>, Turn), Wrong>
+) -> Result<(Entry<usize>, Turn), Reason>
     ensures reads { ReadsRecord (capacity store.old) format turn (piece source.entry) (contents store.old) (contents store.new) (onto stored_next result) }
     ensures stay { OthersStay store.old store.new }
 {
-    let (said, next) = parse(format, turn, source).map_err(Wrong::Form)?;
-    Ok((enter(store, said)?, next))
+    let (said, next) = parse(format, turn, source).map_err(Reason::Form)?;
+    Ok((enter(store, said).map_err(Reason::Formula)?, next))
 }
 
 // The record of a number.
@@ -55,9 +55,9 @@ pub(crate) fn read_record(
     turn: Turn,
     number: usize,
     source: Record<'_>,
-) -> Result<(Entry<usize>, Turn), Unread>
+) -> Result<(Entry<usize>, Turn), Fault>
     ensures reads { ReadsNumbered (capacity store.old) format turn number (piece source.entry) (contents store.old) (contents store.new) result }
     ensures stay { OthersStay store.old store.new }
 {
-    read_one(store, format, turn, source).map_err(|wrong| Unread::At(number, wrong))
+    read_one(store, format, turn, source).map_err(|reason| Fault::At(number, reason))
 }

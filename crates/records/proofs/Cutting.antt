@@ -1,9 +1,9 @@
 -- A text is cut at the first byte that passes a test.
-use Rattle.std.proofs.Common.{◌≡◌, ℕ, suc, ◌+◌, ◌-◌, ◌<◌, Bool, true, false, cond, nat_lt, ltb-false, ltb-true, List, [], ◌∷◌, length, get_or, take, drop, position, ◌==◌, Some, None, Option, refl, sym, ap, ◌∙◌, subst, arith}
+use Rattle.std.proofs.Common.{◌≡◌, ℕ, suc, ◌+◌, ◌-◌, ◌<◌, ◌≤◌, Bool, true, false, cond, nat_lt, ltb-false, ltb-true, List, [], ◌∷◌, length, get_or, take, drop, position, ◌==◌, Some, None, Option, refl, sym, ap, ◌∙◌, subst, arith}
 use Rattle.std.specs.List.{slice_split, onto_first, position_or_len, before_first, count_by}
 use Rattle.std.proofs.lemmas.List.Splits.{slice_split-cons_no, slice_split_first, length-slice_split}
 use Rattle.records.specs.Pieces.{last_piece, ended, records}
-use Rattle.std.proofs.lemmas.List.Sums.{fails_before_first}
+use Rattle.std.proofs.lemmas.List.Sums.{count_by-le-length, fails_before_first}
 use Rattle.std.proofs.lemmas.List.{length-drop}
 use Rattle.std.proofs.Math.Seq.{take-length}
 use Rattle.std.specs.Option.{unwrap_or}
@@ -50,3 +50,16 @@ only_record s some e = ap ended e ∙ alone s some
     alone : (s : List ℕ) → 0 < length s → last_piece s ≡ (s, false) ∷ []
     alone [] some = absurd (omega (arith, some))
     alone (b ∷ bs) some = refl
+
+-- an input has at most one record more than it has bytes
+pub few : (s : List ℕ) → length (records s) ≤ length s + 1
+few s = omega (arith, no_more (slice_split (λ b. b == 10) s), length-slice_split (λ b. b == 10) s, count_by-le-length (λ b. b == 10) s)
+  where
+    last_one : (p : List ℕ) → length (last_piece p) ≤ 1
+    last_one [] = omega arith
+    last_one (b ∷ bs) = omega arith
+
+    no_more : (ps : List (List ℕ)) → length (ended ps) ≤ length ps
+    no_more [] = omega arith
+    no_more (p ∷ []) = last_one p
+    no_more (p ∷ q ∷ ps) = omega (arith, no_more (q ∷ ps))

@@ -36,6 +36,21 @@ impl<'i> Records<'i> {
     }
 }
 
+impl Records<'_> {
+    #[tactic(auto, using(crate::proofs::Cutting::few))]
+    // How many records are left.
+    pub fn count(self) -> usize
+        ensures { result ≡ length (records_to_come self.entry) }
+    {
+        let mut rest = self;
+        let mut count = 0;
+        while let Some(_) = rest.next() {
+            count += 1;
+        }
+        count
+    }
+}
+
 impl<'i> Record<'i> {
     // How many fields it has.
     pub fn count_fields(&self) -> usize
