@@ -3,3 +3,4 @@ pub mod Turns
 pub mod Entries
 pub mod Forms
 pub mod Texts
+pub mod InTurn

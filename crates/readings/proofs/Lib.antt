@@ -1,3 +1,4 @@
 pub mod Going
 pub mod Settling
 pub mod Inputs
+pub mod Turning

@@ -1,0 +1,25 @@
+-- Records that come in their turns.
+use Rattle.std.specs.Prelude.{◌≡◌, ℕ, true, List, [], ◌∷◌, Some}
+use Rattle.entries.specs.Entries.{Said}
+use Rattle.entries.specs.Turns.{follow, complete}
+use Rattle.entries.specs.declared.kind.Kind.{Kind}
+use Rattle.entries.specs.declared.kind.Kind.TheVariants as kinds
+use Rattle.entries.specs.declared.turn.Format.{Format}
+use Rattle.entries.specs.declared.turn.Turn.{Turn}
+
+abbrev pub kind_said : {F : Type 0} → Said F → Kind
+kind_said (Said.mode m) = kinds.Mode
+kind_said (Said.premise p) = kinds.Premise
+kind_said (Said.assume p) = kinds.Assume
+kind_said (Said.step p r cs) = kinds.Step
+kind_said Said.close = kinds.Close
+kind_said Said.part = kinds.Part
+kind_said (Said.base n) = kinds.Base
+kind_said (Said.pair u v) = kinds.Pair
+kind_said (Said.nucleus e) = kinds.Nucleus
+kind_said (Said.value a e) = kinds.Value
+
+-- from a turn on each record comes in its own, and the last where an input may end
+pub data InTurn (format : Format) : Turn → List (Said ℕ) → Type 0 where
+  end : {turn : Turn} → complete format turn ≡ true → InTurn format turn []
+  more : {turn : Turn} {x : Said ℕ} {xs : List (Said ℕ)} (later : Turn) → follow format turn (kind_said x) ≡ Some later → InTurn format later xs → InTurn format turn (x ∷ xs)
