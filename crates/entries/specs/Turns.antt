@@ -39,19 +39,10 @@ follow f Values = by_kind None None None None None None None (Some Values)
 
 -- where an input may end
 abbrev pub complete : Format → Turn → Bool
-complete Proof Start = false
 complete Proof Premises = true
 complete Proof Body = true
-complete Proof Parted = false
-complete Proof First = false
-complete Proof Second = false
-complete Proof Layered = false
-complete Proof Values = false
-complete Weighing Start = false
-complete Weighing Premises = false
-complete Weighing Body = false
-complete Weighing Parted = false
 complete Weighing First = true
 complete Weighing Second = true
 complete Weighing Layered = true
 complete Weighing Values = true
+complete _ _ = false

@@ -18,16 +18,10 @@ use Rattle.answers.specs.declared.fault.Reason.TheVariants.{Form, Formula as AFo
 
 -- the text of a record's formula
 abbrev pub text_of : {F : Type 0} → Said F → Option F
-text_of (Said.mode m) = None
 text_of (Said.premise s) = Some s
 text_of (Said.assume s) = Some s
 text_of (Said.step s r cs) = Some s
-text_of Said.close = None
-text_of Said.part = None
-text_of (Said.base n) = None
-text_of (Said.pair u v) = None
-text_of (Said.nucleus e) = None
-text_of (Said.value a e) = None
+text_of _ = None
 
 -- what the record says, with its formula at a place
 abbrev pub placed : {F : Type 0} → Said F → ℕ → Said ℕ

@@ -18,9 +18,9 @@ const MOST_INPUT: usize = 65536;
 #[tactic(auto, using(crate::proofs::Going::still, crate::proofs::Going::stay_on))]
 fn read_records(
     store: &mut Store,
+    entries: &mut [Entry<usize>],
     format: Format,
     input: &[u8],
-    entries: &mut [Entry<usize>],
 ) -> Result<usize, Fault>
     requires { length (records input.now) ≤ length entries.old }
     ensures read { RecordsRead (capacity store.old) format input.now (contents store.old) (contents store.new) entries.old entries.new result }
@@ -47,9 +47,9 @@ fn read_records(
 #[tactic(auto, using(crate::proofs::Going::still))]
 pub fn read_input(
     store: &mut Store,
+    entries: &mut [Entry<usize>],
     format: Format,
     input: &[u8],
-    entries: &mut [Entry<usize>],
 ) -> Result<usize, Unanswered>
     ensures read { InputRead (capacity store.old) format input.now (contents store.old) (contents store.new) entries.old entries.new result }
     ensures stay { OthersStay store.old store.new }
@@ -61,5 +61,5 @@ pub fn read_input(
     if records.count() > entries.len() {
         return Err(Unanswered::ShortEntries);
     }
-    Ok(read_records(store, format, input, entries)?)
+    Ok(read_records(store, entries, format, input)?)
 }
