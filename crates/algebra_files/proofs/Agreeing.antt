@@ -1,23 +1,24 @@
--- A file gets one answer, if memory lasts.
+-- Entries get one answer.
 use Rattle.std.proofs.Common.{◌≡◌, ℕ, ◌<◌, ◌≤◌, List, length, Ok, Err, Result, Decides, refl, sym, ap, ◌∙◌, subst, arith}
 use Rattle.std.proofs.lemmas.Bool.Decides.{same_from_decides}
-use Rattle.answers.specs.declared.fault.Fault.{Fault}
 use Rattle.answers.specs.declared.fault.Fault.TheVariants as faults
-use Rattle.answers.specs.declared.fault.Reason.{Reason}
-use Rattle.answers.specs.declared.fault.Reason.TheVariants.{Form, Formula as AFormula, Derivation, Algebra}
+use Rattle.answers.specs.declared.fault.Reason.TheVariants.{Algebra}
+use Rattle.answers.specs.declared.unanswered.Unanswered.{Unanswered}
+use Rattle.answers.specs.declared.unanswered.Unanswered.TheVariants.{Faulty}
+use Rattle.entries.specs.Entries.{Said}
 use Rattle.grammar.specs.Formula.{Formula}
 use Rattle.heyting.specs.Meaning.{Meaning, Below}
+use Rattle.heyting.specs.declared.refusal.Refusal.{Refusal}
+use Rattle.heyting.specs.declared.refusal.Refusal.TheVariants.{LetterNotMember}
 use Rattle.ledger.specs.declared.sequent.Sequent.{Sequent}
 use Rattle.verdicts.specs.Weighing.{Stored, Weighed, Weighs}
 use Rattle.verdicts.specs.declared.verdict.Verdict.{Verdict}
 use Rattle.algebra_files.specs.Faults.{FileFault}
 use Rattle.algebra_files.specs.Files.{File}
 use Rattle.algebra_files.specs.Meant.{Means, Elements}
-use Rattle.algebra_files.specs.Outcomes.{Verdicted, Blamed, Outcome}
+use Rattle.algebra_files.specs.Outcomes.{Verdicted, Stopped, Outcome, WeighedInFile}
 use Rattle.algebra_files.specs.Theorems.{Settled}
-use Rattle.algebra_files.specs.declared.wrong.Unweighed.{Unweighed}
-use Rattle.algebra_files.specs.declared.wrong.Unweighed.TheVariants.{OutOfMemory, NotStored, ShortBuffer, At}
-use Rattle.algebra_files.proofs.Settling.{elements_one, one_file_lem, one_algebra_lem, one_fault_at, no_fault}
+use Rattle.algebra_files.proofs.Settling.{elements_one, one_file_lem, one_algebra_lem, one_fault_at, letter_only, no_fault}
 
 same_verdict : (m : Meaning) (fs : List Formula) (v : List ℕ) (s : Sequent) (x y : Verdict) → Weighs m fs v s x → Weighs m fs v s y → x ≡ y
 same_verdict m fs v s x y p q =
@@ -28,12 +29,15 @@ same_verdict m fs v s x y p q =
     ap (λ a. record { meet = a; conclusion = x.conclusion; holds = x.holds }) meet
     ∙ (ap (λ c. record { meet = y.meet; conclusion = c; holds = x.holds }) conclusion ∙ ap (λ h. record { meet = y.meet; conclusion = y.conclusion; holds = h }) holds)
 
-module _ (first : ℕ) (f : File) (fs : List Formula) (s : Sequent) (before : List ℕ) (stored : Stored fs s) (room : length fs ≤ length before) where
-  abbrev Answers : List ℕ → Result Verdict Unweighed → Type 0
+module _ (first : ℕ) (f : File) (fs : List Formula) (s : Sequent) (before : List ℕ) where
+  abbrev Answers : List ℕ → Result Verdict Unanswered → Type 0
   Answers after r = Outcome (Means f) (FileFault first f) fs f.values s before after r
 
   abbrev Verdicts : List ℕ → Verdict → Type 0
   Verdicts after x = Verdicted (Means f) fs f.values s before after x
+
+  abbrev Stops : Unanswered → Type 0
+  Stops why = Stopped (Means f) (FileFault first f) fs s before why
 
   verdicts_agree : (a b : List ℕ) (x y : Verdict) → Verdicts a x → Verdicts b y → (x ≡ y) × (a ≡ b)
   verdicts_agree a b x y p q =
@@ -44,44 +48,48 @@ module _ (first : ℕ) (f : File) (fs : List Formula) (s : Sequent) (before : Li
       subst (λ v. Weighed q.algebra fs v s before a (Ok x)) letters (subst (λ m. Weighed m fs p.letters s before a (Ok x)) same p.weighed) in
       (same_verdict q.algebra fs q.letters s x y weighed.2 q.weighed.2, weighed.1.2 ∙ sym q.weighed.1.2)
 
-  not_blamed : (a : List ℕ) (x : Verdict) (fault : Fault) → Verdicts a x → Blamed (FileFault first f) fault → ⊥
-  not_blamed a x faults.TooLong p h = h
-  not_blamed a x (faults.At n (Form field)) p h = h
-  not_blamed a x (faults.At n (AFormula refusal)) p h = h
-  not_blamed a x (faults.At n (Derivation refusal)) p h = h
-  not_blamed a x (faults.At n (Algebra refusal)) p h = no_fault first f p.algebra p.letters n refusal p.meant p.elements p.weighed.1.1 h
+  not_stopped : (a : List ℕ) (x : Verdict) (why : Unanswered) → Verdicts a x → Stops why → ⊥
+  not_stopped a x why p (Stopped.unstored m is out) = out p.weighed.0
+  not_stopped a x why p (Stopped.short m is stored short) = let room = p.weighed.1.0 in omega (arith, short, room)
+  not_stopped a x why p (Stopped.faulty n refusal fault reached) = no_fault first f p.algebra p.letters n refusal p.meant p.elements p.weighed.1.1 fault
 
-  reasons_agree : (n k : ℕ) (x y : Reason) → Blamed (FileFault first f) (faults.At n x) → Blamed (FileFault first f) (faults.At k y) → faults.At n x ≡ faults.At k y
-  reasons_agree n k (Form field) y p q = absurd p
-  reasons_agree n k (AFormula refusal) y p q = absurd p
-  reasons_agree n k (Derivation refusal) y p q = absurd p
-  reasons_agree n k (Algebra r) (Form field) p q = absurd q
-  reasons_agree n k (Algebra r) (AFormula refusal) p q = absurd q
-  reasons_agree n k (Algebra r) (Derivation refusal) p q = absurd q
-  reasons_agree n k (Algebra r) (Algebra t) p q = let e = one_fault_at first f n k r t p q in ap (λ i. faults.At i (Algebra r)) e.0 ∙ ap (λ x. faults.At k (Algebra x)) e.1
+  -- where an algebra is meant a fault is one of a letter, and comes late
+  late :
+      (m : Meaning) (n : ℕ) (refusal : Refusal) → Means f m → FileFault first f n refusal → ((letter : ℕ) → refusal ≡ LetterNotMember letter → Stored fs s × (length fs ≤ length before))
+      → Stored fs s × (length fs ≤ length before)
+  late m n refusal is fault reached = let letter = letter_only first f m n refusal is fault in reached letter.0 letter.1
 
-  faults_agree : (x y : Fault) → Blamed (FileFault first f) x → Blamed (FileFault first f) y → x ≡ y
-  faults_agree faults.TooLong y p q = absurd p
-  faults_agree (faults.At n x) faults.TooLong p q = absurd q
-  faults_agree (faults.At n x) (faults.At k y) p q = reasons_agree n k x y p q
+  too_short : length before < length fs → length fs ≤ length before → ⊥
+  too_short short room = omega (arith, short, room)
 
-  short_not : length before < length fs → ⊥
-  short_not short = omega (arith, short, room)
+  stops_agree : (x y : Unanswered) → Stops x → Stops y → x ≡ y
+  stops_agree x y (Stopped.unstored m is out) (Stopped.unstored k is_too out_too) = refl
+  stops_agree x y (Stopped.unstored m is out) (Stopped.short k is_too stored short) = absurd (out stored)
+  stops_agree x y (Stopped.unstored m is out) (Stopped.faulty n refusal fault reached) = absurd (out (late m n refusal is fault reached).0)
+  stops_agree x y (Stopped.short m is stored short) (Stopped.unstored k is_too out) = absurd (out stored)
+  stops_agree x y (Stopped.short m is stored short) (Stopped.short k is_too stored_too short_too) = refl
+  stops_agree x y (Stopped.short m is stored short) (Stopped.faulty n refusal fault reached) = absurd (too_short short (late m n refusal is fault reached).1)
+  stops_agree x y (Stopped.faulty n refusal fault reached) (Stopped.unstored m is out) = absurd (out (late m n refusal is fault reached).0)
+  stops_agree x y (Stopped.faulty n refusal fault reached) (Stopped.short m is stored short) = absurd (too_short short (late m n refusal is fault reached).1)
+  stops_agree x y (Stopped.faulty n r fault reached) (Stopped.faulty k t fault_too reached_too) =
+      let e = one_fault_at first f n k r t fault fault_too in
+      ap (λ i. Faulty (faults.At i (Algebra r))) e.0 ∙ ap (λ z. Faulty (faults.At k (Algebra z))) e.1
 
-  answers_agree : (a b : List ℕ) (r q : Result Verdict Unweighed) → (r ≡ Err OutOfMemory → ⊥) → (q ≡ Err OutOfMemory → ⊥) → Answers a r → Answers b q → (r ≡ q) × (a ≡ b)
-  answers_agree a b (Err OutOfMemory) q lasts lasts_too g h = absurd (lasts refl)
-  answers_agree a b (Err NotStored) q lasts lasts_too g h = absurd (g.0.1 stored)
-  answers_agree a b (Err ShortBuffer) q lasts lasts_too g h = absurd (short_not g.0.2)
-  answers_agree a b (Ok x) (Err OutOfMemory) lasts lasts_too g h = absurd (lasts_too refl)
-  answers_agree a b (Ok x) (Err NotStored) lasts lasts_too g h = absurd (h.0.1 stored)
-  answers_agree a b (Ok x) (Err ShortBuffer) lasts lasts_too g h = absurd (short_not h.0.2)
-  answers_agree a b (Ok x) (Err (At fault)) lasts lasts_too g h = absurd (not_blamed a x fault g h.0)
-  answers_agree a b (Ok x) (Ok y) lasts lasts_too g h = let e = verdicts_agree a b x y g h in (ap (λ v. Ok v) e.0, e.1)
-  answers_agree a b (Err (At fault)) (Err OutOfMemory) lasts lasts_too g h = absurd (lasts_too refl)
-  answers_agree a b (Err (At fault)) (Err NotStored) lasts lasts_too g h = absurd (h.0.1 stored)
-  answers_agree a b (Err (At fault)) (Err ShortBuffer) lasts lasts_too g h = absurd (short_not h.0.2)
-  answers_agree a b (Err (At fault)) (Ok y) lasts lasts_too g h = absurd (not_blamed b y fault h g.0)
-  answers_agree a b (Err (At fault)) (Err (At other)) lasts lasts_too g h = (ap (λ x. Err (At x)) (faults_agree fault other g.0 h.0), g.1 ∙ sym h.1)
+  answers_agree : (a b : List ℕ) (r q : Result Verdict Unanswered) → Answers a r → Answers b q → (r ≡ q) × (a ≡ b)
+  answers_agree a b (Ok x) (Ok y) g h = let e = verdicts_agree a b x y g h in (ap (λ v. Ok v) e.0, e.1)
+  answers_agree a b (Ok x) (Err why) g h = absurd (not_stopped a x why g h.0)
+  answers_agree a b (Err why) (Ok y) g h = absurd (not_stopped b y why h g.0)
+  answers_agree a b (Err why) (Err wherefore) g h = (ap (λ x. Err x) (stops_agree why wherefore g.0 h.0), g.1 ∙ sym h.1)
+
+weighings_agree :
+    (first : ℕ) (xs : List (Said ℕ)) (fs : List Formula) (s : Sequent) (before a b : List ℕ) (r q : Result Verdict Unanswered)
+    → WeighedInFile first xs fs s before a r → WeighedInFile first xs fs s before b q → (r ≡ q) × (a ≡ b)
+weighings_agree first xs fs s before a b r q (WeighedInFile.file f is g) (WeighedInFile.file k is_too h) =
+    let same : f ≡ k = one_file_lem f k (sym is ∙ is_too) in
+    answers_agree first k fs s before a b r q (subst (λ x. Outcome (Means x) (FileFault first x) fs x.values s before a r) same g) h
+weighings_agree first xs fs s before a b r q (WeighedInFile.file f is g) (WeighedInFile.none never refused kept) = absurd (never f is)
+weighings_agree first xs fs s before a b r q (WeighedInFile.none never refused kept) (WeighedInFile.file f is h) = absurd (never f is)
+weighings_agree first xs fs s before a b r q (WeighedInFile.none never refused kept) (WeighedInFile.none never_too refused_too kept_too) = (refused ∙ sym refused_too, kept ∙ sym kept_too)
 
 pub settled : Settled
 settled = record {
@@ -89,5 +97,6 @@ settled = record {
   one_algebra = one_algebra_lem;
   one_fault = one_fault_at;
   not_both = no_fault;
-  one_answer = λ first f fs s before a b r q stored room lasts lasts_too g h. answers_agree first f fs s before stored room a b r q lasts lasts_too g h;
+  one_answer = answers_agree;
+  one_weighing = weighings_agree;
 }

@@ -1,5 +1,5 @@
 pub mod Written
-pub mod Giving
+pub mod Runs
 pub mod Blaming
 pub mod Widening
 pub mod Standing

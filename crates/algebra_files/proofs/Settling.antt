@@ -14,7 +14,7 @@ use Rattle.heyting.specs.declared.refusal.Refusal.{Refusal}
 use Rattle.heyting.specs.declared.refusal.Refusal.TheVariants.{WorldsOutOfRange, NoSuchWorld, SpanTooLarge, NotMember, ShortBuffer, LetterNotMember}
 use Rattle.algebra_files.specs.Faults.{record_at, second_record, layer_record, values_record, blamed, LetterFault, LayerFault, FileFault}
 use Rattle.algebra_files.specs.Files.{Base, File, written}
-use Rattle.algebra_files.specs.Meant.{Loads, Paired, Founds, Layered, Means, Elements, LastFor}
+use Rattle.algebra_files.specs.Meant.{Loads, Paired, Founds, Layered, Means, Elements, ElementFor, LastFor}
 use Rattle.algebra_files.specs.Reading.{file_in}
 use Rattle.algebra_files.proofs.Written.{read_back}
 
@@ -80,9 +80,16 @@ stranger_one m v p q a b =
 last_one : (vs : List (ℕ × ℕ)) (letter k j : ℕ) → LastFor vs letter k → LastFor vs letter j → k ≡ j
 last_one vs letter k j a b = only k j (λ h. a.after j h b.within b.here) (λ h. b.after k h a.within a.here)
 
+pub element_one : (bottom : ℕ) (vs : List (ℕ × ℕ)) (letter x y : ℕ) → ElementFor bottom vs letter x → ElementFor bottom vs letter y → x ≡ y
+element_one bottom vs letter x y (ElementFor.none h) (ElementFor.none g) = refl
+element_one bottom vs letter x y (ElementFor.none h) (ElementFor.last k l) = absurd (h k l.within l.here)
+element_one bottom vs letter x y (ElementFor.last k l) (ElementFor.none h) = absurd (h k l.within l.here)
+element_one bottom vs letter x y (ElementFor.last k l) (ElementFor.last j m) = ap (λ i. (get_or vs i (0, 0)).1) (last_one vs letter k j l m)
+
 pub elements_one : (bottom : ℕ) (vs : List (ℕ × ℕ)) (v w : List ℕ) → Elements bottom vs v → Elements bottom vs w → v ≡ w
 elements_one bottom vs v w a b =
-    same_number_lists v w (a.all ∙ sym b.all) (λ i h. let small : i < 26 = omega (arith, h, a.all) in a.each i small ∙ sym (b.each i small))
+    same_number_lists v w (a.all ∙ sym b.all)
+    (λ i h. let small : i < 26 = omega (arith, h, a.all) in element_one bottom vs (97 + i) (get_or v i 0) (get_or w i 0) (a.each i small) (b.each i small))
 
 letter_one : (m : Meaning) (vs : List (ℕ × ℕ)) (s n k : ℕ) (r q : Refusal) → LetterFault m vs s n r → LetterFault m vs s k q → (n ≡ k) × (r ≡ q)
 letter_one m vs s n k r q (LetterFault.stranger v a i given first last) (LetterFault.stranger w b j given_too first_too last_too) =
@@ -160,6 +167,27 @@ module _ (first : ℕ) (f : File) where
   one_fault_at n k r q (FileFault.too_large b m o loads is second large) other = large_alone b m o k q loads is second large other
   one_fault_at n k r q (FileFault.above m i p founded fault) other = above_alone m i k p q founded fault other
 
+  under_layer : (m k : Meaning) (s n : ℕ) (r : Refusal) → Layered k f.layer m → LayerFault k f.layer f.values s n r → LetterFault m f.values (values_record s f.layer) n r
+  under_layer m k s n r layered (LayerFault.stranger e is out) = absurd (out (not_stranger k m f.layer e is layered))
+  under_layer m k s n r layered (LayerFault.letter o i p layered_too fault) =
+      subst (λ x. LetterFault x f.values (values_record s f.layer) i p) (layered_one k f.layer o m layered_too layered) fault
+
+  -- where an algebra is meant only letters are at fault
+  letter_fault : (m : Meaning) (n : ℕ) (r : Refusal) → Means f m → FileFault first f n r → LetterFault m f.values (values_record (layer_record first f) f.layer) n r
+  letter_fault m n r means (FileFault.first_base p u) = absurd (loadable_not f.first.worlds f.first.pairs p (first_stands f.first f.second means.below means.founded) u)
+  letter_fault m n r means (FileFault.second_base b p l is u) =
+      absurd (loadable_not b.worlds b.pairs p (pair_of f.first f.second b means.below is means.founded).right_is.loadable u)
+  letter_fault m n r means (FileFault.too_large b o j loads is second large) = absurd (small_not f b o j means.below loads is second large means.founded)
+  letter_fault m n r means (FileFault.above o i p founded fault) =
+      under_layer m means.below (layer_record first f) i p means.layered
+      (subst (λ x. LayerFault x f.layer f.values (layer_record first f) i p) (founds_one f.first f.second o means.below founded means.founded) fault)
+
+  a_letter : (m : Meaning) (s n : ℕ) (r : Refusal) → LetterFault m f.values s n r → (letter : ℕ) × (r ≡ LetterNotMember letter)
+  a_letter m s n r (LetterFault.stranger w letter i given stranger last) = (letter, refl)
+
+  pub letter_only : (m : Meaning) (n : ℕ) (r : Refusal) → Means f m → FileFault first f n r → (letter : ℕ) × (r ≡ LetterNotMember letter)
+  letter_only m n r means fault = a_letter m (values_record (layer_record first f) f.layer) n r (letter_fault m n r means fault)
+
   no_letter : (m : Meaning) (v : List ℕ) (s n : ℕ) (r : Refusal) → Elements m.bottom f.values v → ByMembers m v → LetterFault m f.values s n r → ⊥
   no_letter m v s n r elements members (LetterFault.stranger w letter i given stranger last) =
       let same : w ≡ v = elements_one m.bottom f.values w v given elements in
@@ -167,16 +195,5 @@ module _ (first : ℕ) (f : File) where
       let out = stranger.stranger in
       cc
 
-  no_layer : (m k : Meaning) (v : List ℕ) (s n : ℕ) (r : Refusal) → Layered k f.layer m → Elements m.bottom f.values v → ByMembers m v → LayerFault k f.layer f.values s n r → ⊥
-  no_layer m k v s n r layered elements members (LayerFault.stranger e is out) = out (not_stranger k m f.layer e is layered)
-  no_layer m k v s n r layered elements members (LayerFault.letter o i p layered_too fault) =
-      no_letter m v (values_record s f.layer) i p elements members (subst (λ x. LetterFault x f.values (values_record s f.layer) i p) (layered_one k f.layer o m layered_too layered) fault)
-
   pub no_fault : (m : Meaning) (v : List ℕ) (n : ℕ) (r : Refusal) → Means f m → Elements m.bottom f.values v → ByMembers m v → FileFault first f n r → ⊥
-  no_fault m v n r means elements members (FileFault.first_base p u) = loadable_not f.first.worlds f.first.pairs p (first_stands f.first f.second means.below means.founded) u
-  no_fault m v n r means elements members (FileFault.second_base b p l is u) =
-      loadable_not b.worlds b.pairs p (pair_of f.first f.second b means.below is means.founded).right_is.loadable u
-  no_fault m v n r means elements members (FileFault.too_large b o j loads is second large) = small_not f b o j means.below loads is second large means.founded
-  no_fault m v n r means elements members (FileFault.above o i p founded fault) =
-      no_layer m means.below v (layer_record first f) i p means.layered elements members
-      (subst (λ x. LayerFault x f.layer f.values (layer_record first f) i p) (founds_one f.first f.second o means.below founded means.founded) fault)
+  no_fault m v n r means elements members fault = no_letter m v (values_record (layer_record first f) f.layer) n r elements members (letter_fault m n r means fault)

@@ -1,7 +1,10 @@
 -- An answer where less is meant is one where more is.
 use Rattle.std.proofs.Common.{◌≡◌, ℕ, ◌^◌, ◌<◌, List, Some, None, Option, Ok, Err, Result, refl, sym, subst, arith}
+use Rattle.answers.specs.declared.fault.Fault.{Fault}
 use Rattle.answers.specs.declared.fault.Fault.TheVariants as faults
-use Rattle.answers.specs.declared.fault.Reason.TheVariants.{Form, Formula as AFormula, Derivation, Algebra}
+use Rattle.answers.specs.declared.fault.Reason.TheVariants.{Algebra}
+use Rattle.answers.specs.declared.unanswered.Unanswered.{Unanswered}
+use Rattle.answers.specs.declared.unanswered.Unanswered.TheVariants.{Faulty}
 use Rattle.grammar.specs.Formula.{Formula}
 use Rattle.heyting.specs.Layers.{nucleus}
 use Rattle.heyting.specs.Meaning.{Meaning, Member}
@@ -12,28 +15,21 @@ use Rattle.verdicts.specs.declared.verdict.Verdict.{Verdict}
 use Rattle.algebra_files.specs.Faults.{record_at, values_record, LetterFault, LayerFault}
 use Rattle.algebra_files.specs.Meant.{Layered}
 use Rattle.algebra_files.specs.Outcomes.{Stopped, Outcome}
-use Rattle.algebra_files.specs.declared.wrong.Unweighed.{Unweighed}
-use Rattle.algebra_files.specs.declared.wrong.Unweighed.TheVariants.{OutOfMemory, NotStored, ShortBuffer, At}
 
 module _ (M N : Meaning → Type 0) (F G : ℕ → Refusal → Type 0) (meant : (m : Meaning) → M m → N m) (blamed : (n : ℕ) (refusal : Refusal) → F n refusal → G n refusal) where
-  stopped : (fs : List Formula) (s : Sequent) (buffer : List ℕ) (why : Unweighed) → Stopped M F fs s buffer why → Stopped N G fs s buffer why
-  stopped fs s buffer OutOfMemory h = tt
-  stopped fs s buffer NotStored h = ((h.0.0, meant h.0.0 h.0.1), h.1)
-  stopped fs s buffer ShortBuffer h = ((h.0.0, meant h.0.0 h.0.1), h.1, h.2)
-  stopped fs s buffer (At faults.TooLong) h = h
-  stopped fs s buffer (At (faults.At n (Form field))) h = h
-  stopped fs s buffer (At (faults.At n (AFormula refusal))) h = h
-  stopped fs s buffer (At (faults.At n (Derivation refusal))) h = h
-  stopped fs s buffer (At (faults.At n (Algebra refusal))) h = blamed n refusal h
+  stopped : (fs : List Formula) (s : Sequent) (buffer : List ℕ) (why : Unanswered) → Stopped M F fs s buffer why → Stopped N G fs s buffer why
+  stopped fs s buffer why (Stopped.unstored m is out) = Stopped.unstored m (meant m is) out
+  stopped fs s buffer why (Stopped.short m is stored short) = Stopped.short m (meant m is) stored short
+  stopped fs s buffer why (Stopped.faulty n refusal fault reached) = Stopped.faulty n refusal (blamed n refusal fault) reached
 
   pub widened :
-      (fs : List Formula) (vs : List (ℕ × ℕ)) (s : Sequent) (before after : List ℕ) (r : Result Verdict Unweighed)
+      (fs : List Formula) (vs : List (ℕ × ℕ)) (s : Sequent) (before after : List ℕ) (r : Result Verdict Unanswered)
       → Outcome M F fs vs s before after r → Outcome N G fs vs s before after r
   widened fs vs s before after (Ok verdict) h =
       record { algebra = h.algebra; meant = meant h.algebra h.meant; letters = h.letters; elements = h.elements; weighed = h.weighed; follows = h.follows }
   widened fs vs s before after (Err why) h = (stopped fs s before why h.0, h.1)
 
-module _ (below : Meaning) (fs : List Formula) (vs : List (ℕ × ℕ)) (s : Sequent) (n : ℕ) (before after : List ℕ) (r : Result Verdict Unweighed) where
+module _ (below : Meaning) (fs : List Formula) (vs : List (ℕ × ℕ)) (s : Sequent) (n : ℕ) (before after : List ℕ) (r : Result Verdict Unanswered) where
   abbrev pub OverLayer : Option ℕ → Type 0
   OverLayer layer = Outcome (Layered below layer) (LayerFault below layer vs n) fs vs s before after r
 
@@ -60,5 +56,6 @@ module _ (below : Meaning) (fs : List Formula) (vs : List (ℕ × ℕ)) (s : Seq
       (subst (λ k. Outcome (λ m. m ≡ k) (LetterFault k vs (record_at n 1)) fs vs s before after r) same
       (subst (λ j. Outcome (λ m. m ≡ above) (LetterFault above vs j) fs vs s before after r) next h))
 
-  pub no_member : (layer : Option ℕ) (e : ℕ) (why : Unweighed) → layer ≡ Some e → (Member below e → ⊥) → why ≡ At (faults.At n (Algebra NotMember)) → Stopped (Layered below layer) (LayerFault below layer vs n) fs s before why
-  no_member layer e why is out told = subst (Stopped (Layered below layer) (LayerFault below layer vs n) fs s before) (sym told) (LayerFault.stranger e is out)
+  pub no_member : (layer : Option ℕ) (e : ℕ) (fault : Fault) → layer ≡ Some e → (Member below e → ⊥) → fault ≡ faults.At n (Algebra NotMember) → Stopped (Layered below layer) (LayerFault below layer vs n) fs s before (Faulty fault)
+  no_member layer e fault is out told =
+      subst (λ x. Stopped (Layered below layer) (LayerFault below layer vs n) fs s before (Faulty x)) (sym told) (Stopped.faulty n NotMember (LayerFault.stranger e is out) (λ letter other. cc))

@@ -1,5 +1,5 @@
 -- A written file is read back, and what is read was so written.
-use Rattle.std.proofs.Common.{◌≡◌, ℕ, List, [], ◌∷◌, ◌++◌, map, Some, None, Option, refl, ap, ◌∙◌, append-nil}
+use Rattle.std.proofs.Common.{◌≡◌, ℕ, List, [], ◌∷◌, ◌++◌, map, Some, None, Option, refl, sym, ap, ◌∙◌, append-nil}
 use Rattle.entries.specs.Entries.{Said}
 use Rattle.algebra_files.specs.Files.{Base, File, pair_said, value_said, base_said, layer_said, optional, written}
 use Rattle.algebra_files.specs.Reading.{pairs_in, after_pairs, values_in, after_values, base_in, after_base, layer_in, after_layer, whole, from_layer, from_second, file_in}
@@ -124,7 +124,10 @@ whole_forth : (g f : File) (xs : List (Said ℕ)) → whole g xs ≡ Some f → 
 whole_forth g f [] e = (refl, cc)
 whole_forth g f (x ∷ xs) e = cc
 
-values_end : (xs : List (Said ℕ)) → after_values xs ≡ [] → xs ≡ map value_said (values_in xs)
+pub pairs_end : (xs : List (Said ℕ)) → after_pairs xs ≡ [] → xs ≡ map pair_said (pairs_in xs)
+pairs_end xs e = pairs_forth xs ∙ (ap (λ ys. map pair_said (pairs_in xs) ++ ys) e ∙ append-nil (map pair_said (pairs_in xs)))
+
+pub values_end : (xs : List (Said ℕ)) → after_values xs ≡ [] → xs ≡ map value_said (values_in xs)
 values_end xs e = values_forth xs ∙ (ap (λ ys. map value_said (values_in xs) ++ ys) e ∙ append-nil (map value_said (values_in xs)))
 
 rest_forth : (xs : List (Said ℕ)) → after_values (after_layer (after_base xs)) ≡ []
@@ -142,3 +145,13 @@ second_forth f (Some b) xs ys e h =
 
 pub read_forth : (f : File) (xs : List (Said ℕ)) → file_in xs ≡ Some f → xs ≡ written f
 read_forth f xs h = second_forth f (base_in xs) xs (after_base xs) (base_forth xs) h
+
+not_whole : (f : File) (xs : List (Said ℕ)) → (xs ≡ [] → ⊥) → whole f xs ≡ None
+not_whole f [] h = absurd (h refl)
+not_whole f (x ∷ xs) h = refl
+
+pub read_not : (xs zs : List (Said ℕ)) (b : Base) → Some b ≡ base_in xs → zs ≡ after_layer (after_base (after_base xs)) → (after_values zs ≡ [] → ⊥) → None ≡ file_in xs
+read_not xs zs b first left more =
+    let ys : List (Said ℕ) = after_base xs in
+    let f : File = record { first = b; second = base_in ys; layer = layer_in (after_base ys); values = values_in (after_layer (after_base ys)) } in
+    sym (not_whole f (after_values (after_layer (after_base ys))) (λ e. more (ap after_values left ∙ e))) ∙ ap (λ o. from_second o ys) first

@@ -2,14 +2,14 @@
 use Rattle.std.specs.Prelude.{◌≡◌, ℕ, ◌+◌, ◌<◌, ◌≤◌, ◌⊎◌, List, length}
 use Rattle.answers.specs.declared.fault.Fault.TheVariants as faults
 use Rattle.answers.specs.declared.fault.Reason.TheVariants.{Algebra}
+use Rattle.answers.specs.declared.unanswered.Unanswered.{Unanswered}
+use Rattle.answers.specs.declared.unanswered.Unanswered.TheVariants.{NotStored, ShortBuffer, Faulty}
 use Rattle.heyting.specs.declared.refusal.Refusal.{Refusal}
 use Rattle.heyting.specs.declared.refusal.Refusal.TheVariants.{WorldsOutOfRange, NoSuchWorld, SpanTooLarge, NotMember, ShortBuffer as TooShort, LetterNotMember}
 use Rattle.verdicts.specs.declared.refusal.Unweighable.{Unweighable}
 use Rattle.verdicts.specs.declared.refusal.Unweighable.TheVariants.{NotStored as Unstored, NotEvaluated}
 use Rattle.algebra_files.specs.Faults.{record_at}
 use Rattle.algebra_files.specs.Meant.{Gives, LastFor}
-use Rattle.algebra_files.specs.declared.wrong.Unweighed.{Unweighed}
-use Rattle.algebra_files.specs.declared.wrong.Unweighed.TheVariants.{NotStored, ShortBuffer, At}
 
 -- a letter is one of 26
 abbrev pub SmallLetter : Refusal → Type 0
@@ -37,10 +37,10 @@ ValueBlamed TooShort vs k = k ≡ 0
 ValueBlamed (LetterNotMember letter) vs k = Latest vs (96 + letter) k
 
 -- the fault at the value that is blamed, where the values are records from n on
-abbrev pub FaultAt : Refusal → List (ℕ × ℕ) → ℕ → Unweighed → Type 0
-FaultAt refusal vs n why = (k : ℕ) × ValueBlamed refusal vs k × (why ≡ At (faults.At (record_at n k) (Algebra refusal)))
+abbrev pub FaultAt : Refusal → List (ℕ × ℕ) → ℕ → Unanswered → Type 0
+FaultAt refusal vs n why = (k : ℕ) × ValueBlamed refusal vs k × (why ≡ Faulty (faults.At (record_at n k) (Algebra refusal)))
 
-abbrev pub WhyNot : Unweighable → List (ℕ × ℕ) → ℕ → Unweighed → Type 0
+abbrev pub WhyNot : Unweighable → List (ℕ × ℕ) → ℕ → Unanswered → Type 0
 WhyNot Unstored vs n why = why ≡ NotStored
 WhyNot (NotEvaluated WorldsOutOfRange) vs n why = FaultAt WorldsOutOfRange vs n why
 WhyNot (NotEvaluated (NoSuchWorld pair)) vs n why = FaultAt (NoSuchWorld pair) vs n why

@@ -1,5 +1,6 @@
 pub mod Files
 pub mod Reading
+pub mod Cutting
 pub mod Meant
 pub mod Faults
 pub mod Outcomes

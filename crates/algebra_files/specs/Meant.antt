@@ -1,5 +1,5 @@
 -- Which algebra a file means, and which elements it gives to letters.
-use Rattle.std.specs.Prelude.{◌≡◌, ℕ, ◌+◌, ◌<◌, ◌==◌, if◌then◌else◌, List, [], ◌∷◌, length, Some, None, Option, slice_index, slice_index_or}
+use Rattle.std.specs.Prelude.{◌≡◌, ℕ, ◌+◌, ◌<◌, List, length, Some, None, Option, slice_index, slice_index_or}
 use Rattle.heyting.specs.Layers.{Pairable, product, nucleus}
 use Rattle.heyting.specs.Loading.{Loadable}
 use Rattle.heyting.specs.Meaning.{Meaning, Member}
@@ -36,20 +36,6 @@ pub record Means (f : File) (m : Meaning) : Type 0 where
   pub founded : Founds f.first f.second below
   pub layered : Layered below f.layer m
 
--- what the last value for a letter gives it, or else the bottom
-abbrev pub element_of : ℕ → List (ℕ × ℕ) → ℕ → ℕ
-element_of bottom [] letter = bottom
-element_of bottom (v ∷ vs) letter = element_of (if v.0 == letter then v.1 else bottom) vs letter
-
--- the 26 elements of the letters, from a on
-pub record Elements (bottom : ℕ) (vs : List (ℕ × ℕ)) (v : List ℕ) : Type 0 where
-  pub all : length v ≡ 26
-  pub each : (i : ℕ) → i < 26 → slice_index v i ≡ element_of bottom vs (97 + i)
-
--- elements before and after one value for a letter, and no other for a byte that is none
-abbrev pub Given : ℕ → ℕ → List ℕ → List ℕ → Type 0
-Given letter e before after = (length after ≡ length before) × ((i : ℕ) → i < 26 → slice_index after i ≡ (if letter == 97 + i then e else slice_index before i))
-
 abbrev pub Gives : List (ℕ × ℕ) → ℕ → ℕ → Type 0
 Gives vs k letter = (slice_index_or vs k (0, 0)).0 ≡ letter
 
@@ -58,3 +44,13 @@ pub record LastFor (vs : List (ℕ × ℕ)) (letter : ℕ) (k : ℕ) : Type 0 wh
   pub within : k < length vs
   pub here : Gives vs k letter
   pub after : (j : ℕ) → k < j → j < length vs → Gives vs j letter → ⊥
+
+-- the element of a letter: what its last value gives it, or the bottom where no value is for it
+pub data ElementFor (bottom : ℕ) (vs : List (ℕ × ℕ)) (letter : ℕ) : ℕ → Type 0 where
+  none : ((k : ℕ) → k < length vs → Gives vs k letter → ⊥) → ElementFor bottom vs letter bottom
+  last : (k : ℕ) → LastFor vs letter k → ElementFor bottom vs letter (slice_index_or vs k (0, 0)).1
+
+-- the 26 elements of the letters, from a on
+pub record Elements (bottom : ℕ) (vs : List (ℕ × ℕ)) (v : List ℕ) : Type 0 where
+  pub all : length v ≡ 26
+  pub each : (i : ℕ) → i < 26 → ElementFor bottom vs (97 + i) (slice_index v i)

@@ -1,21 +1,7 @@
 -- Reading entries back: what they say part by part, each part as long as it goes.
-use Rattle.std.specs.Prelude.{ℕ, List, [], ◌∷◌, map, Some, None, Option}
-use Rattle.std.specs.Option.{option_map}
-use Rattle.entries.specs.Entries.{Said, stored}
-use Rattle.entries.specs.declared.entry.Entry.{Entry}
+use Rattle.std.specs.Prelude.{ℕ, List, [], ◌∷◌, Some, None, Option}
+use Rattle.entries.specs.Entries.{Said}
 use Rattle.algebra_files.specs.Files.{Base, File}
-use Rattle.algebra_files.specs.declared.file.Base.{Base as ABase}
-use Rattle.algebra_files.specs.declared.file.File.{File as AFile}
-use Rattle.algebra_files.specs.declared.read.Entries.{Entries}
-
-abbrev pub to_come : Entries → List (Said ℕ)
-to_come e = map stored e.rest.now
-
-abbrev pub base_of : ABase → Base
-base_of b = record { worlds = b.worlds; pairs = b.pairs.items }
-
-abbrev pub file_of : AFile → File
-file_of f = record { first = base_of f.first; second = option_map base_of f.second; layer = f.layer; values = f.values.items }
 
 abbrev pub pairs_in : List (Said ℕ) → List (ℕ × ℕ)
 pairs_in [] = []

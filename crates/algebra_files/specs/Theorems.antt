@@ -1,18 +1,17 @@
 -- What entries and a file settle: no two files are written alike, no file has two algebras or two faults, or a fault and letters with members, and so there is one answer.
-use Rattle.std.specs.Prelude.{◌≡◌, ℕ, ◌≤◌, List, length, Err, Result}
+use Rattle.std.specs.Prelude.{◌≡◌, ℕ, List, Result}
+use Rattle.answers.specs.declared.unanswered.Unanswered.{Unanswered}
+use Rattle.entries.specs.Entries.{Said}
 use Rattle.grammar.specs.Formula.{Formula}
 use Rattle.heyting.specs.Meaning.{Meaning}
 use Rattle.heyting.specs.Values.{ByMembers}
 use Rattle.heyting.specs.declared.refusal.Refusal.{Refusal}
 use Rattle.ledger.specs.declared.sequent.Sequent.{Sequent}
-use Rattle.verdicts.specs.Weighing.{Stored}
 use Rattle.verdicts.specs.declared.verdict.Verdict.{Verdict}
 use Rattle.algebra_files.specs.Faults.{FileFault}
 use Rattle.algebra_files.specs.Files.{File, written}
 use Rattle.algebra_files.specs.Meant.{Means, Elements}
-use Rattle.algebra_files.specs.Outcomes.{Outcome}
-use Rattle.algebra_files.specs.declared.wrong.Unweighed.{Unweighed}
-use Rattle.algebra_files.specs.declared.wrong.Unweighed.TheVariants.{OutOfMemory}
+use Rattle.algebra_files.specs.Outcomes.{Outcome, WeighedInFile}
 
 pub record Settled : Type 0 where
   pub one_file : (f g : File) → written f ≡ written g → f ≡ g
@@ -21,9 +20,12 @@ pub record Settled : Type 0 where
   pub not_both :
       (first : ℕ) (f : File) (m : Meaning) (v : List ℕ) (n : ℕ) (r : Refusal) → Means f m → Elements m.bottom f.values v → ByMembers m v
       → FileFault first f n r → ⊥
-  -- to a sequent whose places are stored, with room for every value, where memory lasts
+  -- in a file
   pub one_answer :
-      (first : ℕ) (f : File) (fs : List Formula) (s : Sequent) (before a b : List ℕ) (r q : Result Verdict Unweighed)
-      → Stored fs s → length fs ≤ length before → (r ≡ Err OutOfMemory → ⊥) → (q ≡ Err OutOfMemory → ⊥)
+      (first : ℕ) (f : File) (fs : List Formula) (s : Sequent) (before a b : List ℕ) (r q : Result Verdict Unanswered)
       → Outcome (Means f) (FileFault first f) fs f.values s before a r → Outcome (Means f) (FileFault first f) fs f.values s before b q
       → (r ≡ q) × (a ≡ b)
+  -- to any entries
+  pub one_weighing :
+      (first : ℕ) (xs : List (Said ℕ)) (fs : List Formula) (s : Sequent) (before a b : List ℕ) (r q : Result Verdict Unanswered)
+      → WeighedInFile first xs fs s before a r → WeighedInFile first xs fs s before b q → (r ≡ q) × (a ≡ b)

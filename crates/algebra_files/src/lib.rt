@@ -1,12 +1,10 @@
 // The algebra file: which algebra its entries mean, and the verdict on a sequent in it.
 //
-//   weigh::weigh_in_file   the verdict in the algebra of a file, or the first fault of the file by its record
-//   wrong::Unweighed       why there is no verdict
-//   theorems               what a file settles
+//   weigh::weigh_in_file   the verdict in the algebra of a file, or why there is none
+//   theorems               what entries and a file settle
 #![tactic(auto)]
 
 mod file;
-mod letters;
 mod read;
 mod refuse;
 #[cfg(test)]
@@ -14,4 +12,3 @@ mod tests;
 pub mod theorems;
 pub mod weigh;
 mod weigh_in;
-pub mod wrong;

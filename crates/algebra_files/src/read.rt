@@ -1,14 +1,38 @@
 // Reads the entries of a file.
-ghost use Rattle.std.specs.Prelude.{◌≡◌, ℕ, [], ◌∷◌, map, MatchOption, MatchResult};
+ghost use Rattle.std.specs.Prelude.{◌≡◌, ◌∷◌, map, length, take_while, MatchOption};
+ghost use Rattle.std.specs.List.{list_all};
 ghost use Rattle.std.specs.Option.{option_map};
 ghost use Rattle.entries.specs.Entries.{Said, stored};
-ghost use Rattle.algebra_files.specs.Reading.{to_come, base_of, file_of, pairs_in, after_pairs, values_in, after_values, base_in, after_base, layer_in, after_layer, file_in};
-ghost use Rattle.algebra_files.specs.declared.wrong.Unweighed.TheVariants.{OutOfMemory};
+ghost use Rattle.algebra_files.specs.Cutting.{is_pair, is_value, to_come, base_of, file_of};
+ghost use Rattle.algebra_files.specs.Reading.{base_in, after_base, layer_in, after_layer, file_in};
 
-use crate::file::{Base, File};
-use crate::wrong::Unweighed;
+use crate::file::{Base, File, Values};
 use entries::entry::Entry;
-use std::alloc::Global;
+
+fn is_pair(entry: &Entry<usize>) -> bool
+    ensures { result ≡ is_pair entry.now }
+{
+    matches!(entry, Entry::Pair(..))
+}
+
+fn is_value(entry: &Entry<usize>) -> bool
+    ensures { result ≡ is_value entry.now }
+{
+    matches!(entry, Entry::Value(..))
+}
+
+// How many pairs the entries begin with.
+fn pair_count(entries: &[Entry<usize>]) -> usize
+    ensures { result ≡ length (take_while is_pair entries.now) }
+{
+    entries.iter().take_while(|entry| is_pair(entry)).count()
+}
+
+fn all_values(entries: &[Entry<usize>]) -> bool
+    ensures { result ≡ list_all is_value entries.now }
+{
+    entries.iter().all(|entry| is_value(entry))
+}
 
 // What is left of the entries.
 #[derive(Clone, Copy)]
@@ -16,27 +40,7 @@ pub(crate) struct Entries<'e> {
     rest: &'e [Entry<usize>],
 }
 
-impl Entries<'_> {
-    fn next_pair(&mut self) -> Option<(u32, u32)>
-        ensures { MatchOption result ((pairs_in (to_come self.old) ≡ []) × (after_pairs (to_come self.old) ≡ to_come self.old) × (self.new ≡ self.old)) (λ p. to_come self.old ≡ Said.pair p.0 p.1 ∷ to_come self.new) }
-    {
-        let [Entry::Pair(u, v), rest @ ..] = self.rest else {
-            return None;
-        };
-        self.rest = rest;
-        Some((*u, *v))
-    }
-
-    fn next_value(&mut self) -> Option<(u8, u32)>
-        ensures { MatchOption result ((values_in (to_come self.old) ≡ []) × (after_values (to_come self.old) ≡ to_come self.old) × (self.new ≡ self.old)) (λ v. to_come self.old ≡ Said.value v.0 v.1 ∷ to_come self.new) }
-    {
-        let [Entry::Value(letter, element), rest @ ..] = self.rest else {
-            return None;
-        };
-        self.rest = rest;
-        Some((*letter, *element))
-    }
-
+impl<'e> Entries<'e> {
     fn next_worlds(&mut self) -> Option<u32>
         ensures { MatchOption result ((base_in (to_come self.old) ≡ None) × (after_base (to_come self.old) ≡ to_come self.old) × (self.new ≡ self.old)) (λ n. to_come self.old ≡ Said.base n ∷ to_come self.new) }
     {
@@ -45,6 +49,16 @@ impl Entries<'_> {
         };
         self.rest = rest;
         Some(*worlds)
+    }
+
+    fn base(&mut self) -> Option<Base<'e>>
+        ensures base { option_map base_of result ≡ base_in (to_come self.old) }
+        ensures rest { to_come self.new ≡ after_base (to_come self.old) }
+    {
+        let worlds = self.next_worlds()?;
+        let (pairs, rest) = self.rest.split_at(pair_count(self.rest));
+        self.rest = rest;
+        Some(Base { worlds, pairs })
     }
 
     fn layer(&mut self) -> Option<u32>
@@ -57,58 +71,25 @@ impl Entries<'_> {
         self.rest = rest;
         Some(*element)
     }
-
-    fn pairs(&mut self, heap: Global) -> Result<Vec<(u32, u32)>, Unweighed>
-        ensures { MatchResult result (λ v. (v.items ≡ pairs_in (to_come self.old)) × (to_come self.new ≡ after_pairs (to_come self.old))) (λ e. e ≡ OutOfMemory) }
-    {
-        let mut pairs = Vec::new(heap);
-        while let Some(pair) = self.next_pair() {
-            pairs.push(pair)?;
-        }
-        Ok(pairs)
-    }
-
-    fn values(&mut self, heap: Global) -> Result<Vec<(u8, u32)>, Unweighed>
-        ensures { MatchResult result (λ v. (v.items ≡ values_in (to_come self.old)) × (to_come self.new ≡ after_values (to_come self.old))) (λ e. e ≡ OutOfMemory) }
-    {
-        let mut values = Vec::new(heap);
-        while let Some(value) = self.next_value() {
-            values.push(value)?;
-        }
-        Ok(values)
-    }
-
-    fn base(&mut self, heap: Global) -> Result<Option<Base>, Unweighed>
-        ensures { MatchResult result (λ b. (option_map base_of b ≡ base_in (to_come self.old)) × (to_come self.new ≡ after_base (to_come self.old))) (λ e. e ≡ OutOfMemory) }
-    {
-        let Some(worlds) = self.next_worlds() else {
-            return Ok(None);
-        };
-        Ok(Some(Base {
-            worlds,
-            pairs: self.pairs(heap)?,
-        }))
-    }
 }
 
 // What the entries say, if they are those of a file.
-pub(crate) fn read_file(heap: Global, entries: &[Entry<usize>]) -> Result<Option<File>, Unweighed>
-    ensures { MatchResult result (λ f. option_map file_of f ≡ file_in (map stored entries.now)) (λ e. e ≡ OutOfMemory) }
+pub(crate) fn read_file(entries: &[Entry<usize>]) -> Option<File<'_>>
+    ensures { option_map file_of result ≡ file_in (map stored entries.now) }
 {
     let mut entries = Entries { rest: entries };
-    let Some(first) = entries.base(heap)? else {
-        return Ok(None);
-    };
-    let second = entries.base(heap)?;
+    let first = entries.base()?;
+    let second = entries.base();
     let layer = entries.layer();
-    let values = entries.values(heap)?;
-    if !entries.rest.is_empty() {
-        return Ok(None);
+    if !all_values(entries.rest) {
+        return None;
     }
-    Ok(Some(File {
+    Some(File {
         first,
         second,
         layer,
-        values,
-    }))
+        values: Values {
+            entries: entries.rest,
+        },
+    })
 }

@@ -1,6 +1,6 @@
 use crate::weigh::weigh_in_file;
-use crate::wrong::Unweighed;
 use answers::fault::{Fault, Reason};
+use answers::unanswered::Unanswered;
 use entries::entry::Entry;
 use fitch::mode::Mode;
 use formulas::store::Store;
@@ -17,7 +17,7 @@ const P: usize = 16;
 const FIRST: usize = 8;
 
 // From p follows (q>p).
-fn weighed(heap: Global, entries: &[Entry<usize>]) -> Result<Result<Verdict, Unweighed>, Fail> {
+fn weighed(heap: Global, entries: &[Entry<usize>]) -> Result<Result<Verdict, Unanswered>, Fail> {
     let mut store = Store::new(vec![in heap; Node::Falsum; 28]?).map_err(
         grammar::refusal::Refusal::from,
     )?;
@@ -31,10 +31,10 @@ fn weighed(heap: Global, entries: &[Entry<usize>]) -> Result<Result<Verdict, Unw
         conclusion,
     };
     let mut values = [0; 28];
-    Ok(weigh_in_file(heap, &sequent, &store, entries, FIRST, &mut values))
+    Ok(weigh_in_file(&sequent, &store, entries, FIRST, &mut values))
 }
 
-fn holds(meet: u32, conclusion: u32) -> Result<Verdict, Unweighed> {
+fn holds(meet: u32, conclusion: u32) -> Result<Verdict, Unanswered> {
     Ok(Verdict {
         meet,
         conclusion,
@@ -42,8 +42,8 @@ fn holds(meet: u32, conclusion: u32) -> Result<Verdict, Unweighed> {
     })
 }
 
-fn fault(record: usize, refusal: Refusal) -> Result<Verdict, Unweighed> {
-    Err(Unweighed::At(Fault::At(record, Reason::Algebra(refusal))))
+fn fault(record: usize, refusal: Refusal) -> Result<Verdict, Unanswered> {
+    Err(Unanswered::Faulty(Fault::At(record, Reason::Algebra(refusal))))
 }
 
 #[test]
@@ -82,7 +82,7 @@ fn faults(rt: HostRuntime) -> Result<(), Fail> {
     assert_eq!(rt; weighed(heap, &layer)?, fault(10, Refusal::NotMember));
     assert_eq!(rt;
         weighed(heap, &[Entry::Close])?,
-        Err(Unweighed::At(Fault::At(FIRST, Reason::Form(1))))
+        Err(Unanswered::Faulty(Fault::At(FIRST, Reason::Form(1))))
     );
     Ok(())
 }

@@ -1,15 +1,16 @@
 // Weighs in one algebra, and in the layer over one.
 ghost use Rattle.std.specs.Prelude.{◌≡◌, ℕ, ◌+◌, ◌<◌, ◌≤◌, length};
 ghost use Rattle.formulas.specs.Stores.{contents};
-ghost use Rattle.algebra_files.specs.Faults.{LetterFault, LayerFault};
 ghost use Rattle.algebra_files.specs.Blame.{SmallLetter, SmallLetterIn, ValueBlamed, WhyNot};
-ghost use Rattle.algebra_files.specs.Outcomes.{Outcome};
+ghost use Rattle.algebra_files.specs.Cutting.{values_of};
+ghost use Rattle.algebra_files.specs.Faults.{LetterFault, LayerFault};
 ghost use Rattle.algebra_files.specs.Meant.{Layered};
+ghost use Rattle.algebra_files.specs.Outcomes.{Outcome};
 
-use crate::letters::{elements, last_for};
+use crate::file::Values;
 use crate::refuse::at;
-use crate::wrong::Unweighed;
 use algebras::algebra::Algebra;
+use answers::unanswered::Unanswered;
 use formulas::store::Store;
 use heyting::refusal::Refusal;
 use ledger::sequent::Sequent;
@@ -20,28 +21,28 @@ use verdicts::weigh::weigh;
 use weighing::valuation::Valuation;
 
 // How far behind the first value the one at fault stands.
-fn blamed_value(refusal: Refusal, values: &[(u8, u32)]) -> usize
+fn blamed_value(refusal: Refusal, values: &Values) -> usize
     requires { SmallLetter refusal }
-    ensures { ValueBlamed refusal values.now result }
+    ensures { ValueBlamed refusal (values_of values.now) result }
 {
     match refusal {
-        Refusal::LetterNotMember(letter) => last_for(values, letter).unwrap_or(0),
+        Refusal::LetterNotMember(letter) => values.last_for(96 + letter).unwrap_or(0),
         _ => 0,
     }
 }
 
 // Why a sequent is not weighed, where the values are records from a number on.
-fn unweighed(why: Unweighable, values: &[(u8, u32)], number: usize) -> Unweighed
+fn unweighed(why: Unweighable, values: &Values, number: usize) -> Unanswered
     requires { SmallLetterIn why }
-    ensures { WhyNot why values.now number result }
+    ensures { WhyNot why (values_of values.now) number result }
 {
     match why {
-        Unweighable::NotStored => Unweighed::NotStored,
-        Unweighable::NotEvaluated(Refusal::ShortBuffer) => Unweighed::ShortBuffer,
-        Unweighable::NotEvaluated(refusal) => at(
-            number.saturating_add(blamed_value(refusal, values)),
-            refusal,
-        ),
+        Unweighable::NotStored => Unanswered::NotStored,
+        Unweighable::NotEvaluated(Refusal::ShortBuffer) => Unanswered::ShortBuffer,
+        Unweighable::NotEvaluated(refusal) => {
+            let number = number.saturating_add(blamed_value(refusal, values));
+            Unanswered::Faulty(at(number, refusal))
+        }
     }
 }
 
@@ -50,14 +51,14 @@ fn weigh_in<A: Algebra>(
     algebra: &A,
     sequent: &Sequent,
     store: &Store,
-    values: &[(u8, u32)],
+    values: &Values,
     number: usize,
     buffer: &mut [u32],
-) -> Result<Verdict, Unweighed>
-    ensures { Outcome (λ m. m ≡ A.Algebra.means algebra.now) (LetterFault (A.Algebra.means algebra.now) values.now number) (contents store.now) values.now sequent.now buffer.old buffer.new result }
+) -> Result<Verdict, Unanswered>
+    ensures { Outcome (λ m. m ≡ A.Algebra.means algebra.now) (LetterFault (A.Algebra.means algebra.now) (values_of values.now) number) (contents store.now) (values_of values.now) sequent.now buffer.old buffer.new result }
 {
     let valuation = Valuation {
-        letters: elements(algebra.bottom(), values),
+        letters: values.elements(algebra.bottom()),
     };
     match weigh(sequent, store, algebra, &valuation, buffer) {
         Ok(verdict) => Ok(verdict),
@@ -71,11 +72,11 @@ pub(crate) fn weigh_over<A: Algebra>(
     layer: Option<u32>,
     sequent: &Sequent,
     store: &Store,
-    values: &[(u8, u32)],
+    values: &Values,
     number: usize,
     buffer: &mut [u32],
-) -> Result<Verdict, Unweighed>
-    ensures { Outcome (Layered (A.Algebra.means below.now) layer) (LayerFault (A.Algebra.means below.now) layer values.now number) (contents store.now) values.now sequent.now buffer.old buffer.new result }
+) -> Result<Verdict, Unanswered>
+    ensures { Outcome (Layered (A.Algebra.means below.now) layer) (LayerFault (A.Algebra.means below.now) layer (values_of values.now) number) (contents store.now) (values_of values.now) sequent.now buffer.old buffer.new result }
 {
     let Some(element) = layer else {
         return weigh_in(below, sequent, store, values, number, buffer);
@@ -89,6 +90,6 @@ pub(crate) fn weigh_over<A: Algebra>(
             number.saturating_add(1),
             buffer,
         ),
-        Err(_) => Err(at(number, Refusal::NotMember)),
+        Err(_) => Err(Unanswered::Faulty(at(number, Refusal::NotMember))),
     }
 }

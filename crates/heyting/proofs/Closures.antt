@@ -1,11 +1,13 @@
 -- One pair after another makes the closure of the pairs.
-use Rattle.std.proofs.Common.{◌≡◌, ℕ, zero, suc, ◌+◌, ◌^◌, ◌<◌, ◌≤◌, Bool, true, false, cond, ◌&&◌, ◌||◌, eqb, ◌⊎◌, List, length, get_or, Decides, sym, refl, ap, ◌∙◌, subst, inl, inr, ⊎_elim, add-one, arith, below_more}
+use Rattle.std.proofs.Common.{◌≡◌, ℕ, zero, suc, ◌^◌, ◌<◌, ◌≤◌, Bool, true, false, cond, ◌&&◌, ◌||◌, eqb, ◌⊎◌, List, [], ◌∷◌, ◌++◌, length, get_or, take, Decides, sym, refl, ap, ◌∙◌, subst, inl, inr, ⊎_elim, arith, length-append}
+use Rattle.std.proofs.Math.Seq.{take-suc, take-length, get_or-append_seam}
+use Rattle.std.proofs.Math.ListN.{get_or-append}
 use mathlib.Core.Bool.{or-false}
 use lib.Bits.{bit_or, or_lt}
-use Rattle.std.proofs.lemmas.Bool.{and_parts, and_from, or_cases, or_left, or_right, eqb-true, eq-eqb}
+use Rattle.std.proofs.lemmas.Bool.{cases_lt, and_parts, and_from, or_cases, or_left, or_right, eqb-true, eq-eqb}
 use Rattle.heyting.specs.Loading.{Loadable}
 use Rattle.heyting.specs.Meaning.{Meaning}
-use Rattle.heyting.specs.Order.{Order}
+use Rattle.heyting.specs.Order.{Stated, Order}
 use Rattle.heyting.specs.Order.Order.{same, step}
 use Rattle.heyting.specs.Tables.{table, related, reflexive, transitive, Within, kripke}
 use Rattle.heyting.specs.Worlds.{holds, FrameOf}
@@ -67,29 +69,20 @@ module _ (n : ℕ) (above : ℕ → ℕ → Bool) (ordered : (reflexive n above 
       ordered_from n after (λ a ha. is a a ha ∙ old a a (refl_at n above ordered a ha))
       (λ a b c ha hb hc p q. is a c ha ∙ related_trans a b c ha hb hc (sym (is a b ha) ∙ p) (sym (is b c hb) ∙ q))
 
-  pub related_has : related above u v u v ≡ true
-  related_has = new u v (refl_at n above ordered u hu) (refl_at n above ordered v hv)
-
 -- all pairs
 
 pub order_trans : {pairs : List (ℕ × ℕ)} {u v w : ℕ} → Order pairs u v → Order pairs v w → Order pairs u w
 order_trans same q = q
 order_trans (step s p) q = step s (order_trans p q)
 
--- `above` lies in the pairs' order, and has the first k pairs
-abbrev pub HalfClosed : ℕ → List (ℕ × ℕ) → ℕ → (ℕ → ℕ → Bool) → Type 0
-HalfClosed n pairs k above =
-    ((u v : ℕ) → u < n → v < n → above u v ≡ true → Order pairs u v)
-    × ((i : ℕ) → i < k → above (get_or pairs i (0, 0)).0 (get_or pairs i (0, 0)).1 ≡ true)
+-- `above` is the order of the pairs on the worlds below n
+abbrev pub Orders : ℕ → List (ℕ × ℕ) → (ℕ → ℕ → Bool) → Type 0
+Orders n pairs above = (u v : ℕ) → u < n → v < n → Decides (above u v) (Order pairs u v)
 
-pub closed_none : (n : ℕ) (pairs : List (ℕ × ℕ)) (above : ℕ → ℕ → Bool) → ((u v : ℕ) → u < n → above u v ≡ eqb u v) → HalfClosed n pairs 0 above
-closed_none n pairs above is = (
-  λ u v hu hv e. let P : ℕ → Type 0 = Order pairs u in subst P (eqb-true u v (sym (is u v hu) ∙ e)) same,
-  λ i h. absurd (omega arith),
-)
-
+-- a table in the pairs' order that has the pairs is that order
 pub closed_all : (n : ℕ) (pairs : List (ℕ × ℕ)) (above : ℕ → ℕ → Bool) → Loadable n pairs → (reflexive n above && transitive n above) ≡ true
-    → HalfClosed n pairs (length pairs) above → (u v : ℕ) → u < n → v < n → Decides (above u v) (Order pairs u v)
+    → ((u v : ℕ) → u < n → v < n → above u v ≡ true → Order pairs u v)
+    × ((i : ℕ) → i < length pairs → above (get_or pairs i (0, 0)).0 (get_or pairs i (0, 0)).1 ≡ true) → Orders n pairs above
 closed_all n pairs above good ordered half u v hu hv = (half.0 u v hu hv, complete u v hu hv)
   where
     complete : (u v : ℕ) → u < n → v < n → Order pairs u v → above u v ≡ true
@@ -99,29 +92,58 @@ closed_all n pairs above good ordered half u v hu hv = (half.0 u v hu hv, comple
         let here : above u w ≡ true = rw e at (half.1 k hk) in
         trans_at n above ordered u w v hu hw hv here (complete w v hw hv rest)
 
-pub closed_more : (n : ℕ) (pairs : List (ℕ × ℕ)) (k : ℕ) (above after : ℕ → ℕ → Bool) → Loadable n pairs → (reflexive n above && transitive n above) ≡ true → k < length pairs
-    → ((w x : ℕ) → w < n → after w x ≡ related above (get_or pairs k (0, 0)).0 (get_or pairs k (0, 0)).1 w x)
-    → HalfClosed n pairs k above → HalfClosed n pairs (k + 1) after
-closed_more n pairs k above after good ordered hk is half = (
-  λ a b ha hb e. ⊎_elim (half.0 a b ha hb)
-      (λ p. order_trans (half.0 a u ha hu p.0) (step (k, hk, refl) (half.0 v b hv hb p.1)))
-      (back n above ordered u v hu hv a b (sym (is a b ha) ∙ e)),
-  below_more (λ i. after (get_or pairs i (0, 0)).0 (get_or pairs i (0, 0)).1 ≡ true) k
-      (λ i h. is _ _ (good.named i (omega arith)).0 ∙ old n above ordered u v hu hv _ _ (half.1 i h))
-      (is u v hu ∙ related_has n above ordered u v hu hv),
-)
+order_in : (pairs : List (ℕ × ℕ)) (pair : ℕ × ℕ) (a b : ℕ) → Order pairs a b → Order (pairs ++ pair ∷ []) a b
+order_in pairs pair a b same = same
+order_in pairs pair a b (step {v = w} (k, hk, e) rest) =
+    step (k, omega (arith, hk, length-append pairs (pair ∷ [])), get_or-append pairs (pair ∷ []) (0, 0) k hk ∙ e) (order_in pairs pair w b rest)
+
+order_last : (pairs : List (ℕ × ℕ)) (u v : ℕ) → Order (pairs ++ (u, v) ∷ []) u v
+order_last pairs u v = step (length pairs, omega (arith, length-append pairs ((u, v) ∷ [])), get_or-append_seam pairs (u, v) [] (0, 0)) same
+
+-- one of the pairs says so, or the last
+abbrev Newly : List (ℕ × ℕ) → ℕ × ℕ → ℕ → ℕ → Type 0
+Newly pairs pair a b = Stated pairs a b ⊎ (pair ≡ (a, b))
+
+stated_back : (pairs : List (ℕ × ℕ)) (pair : ℕ × ℕ) (a b : ℕ) → Stated (pairs ++ pair ∷ []) a b → Newly pairs pair a b
+stated_back pairs pair a b (k, hk, e) = ⊎_elim (λ h. inl (k, h, sym (get_or-append pairs (pair ∷ []) (0, 0) k h) ∙ e)) (λ h. inr (last h)) (cases_lt k (length pairs))
   where
-    u : ℕ
-    u = (get_or pairs k (0, 0)).0
+    last : length pairs ≤ k → pair ≡ (a, b)
+    last h =
+        let here : k ≡ length pairs = omega (arith, h, hk, length-append pairs (pair ∷ [])) in
+        sym (get_or-append_seam pairs pair [] (0, 0)) ∙ (ap (λ i. get_or (pairs ++ pair ∷ []) i (0, 0)) (sym here) ∙ e)
 
-    v : ℕ
-    v = (get_or pairs k (0, 0)).1
+-- b is above a by the pairs, or by them and v above u
+abbrev Through : List (ℕ × ℕ) → ℕ → ℕ → ℕ → ℕ → Type 0
+Through pairs u v a b = Order pairs a b ⊎ (Order pairs a u × Order pairs v b)
 
-    hu : u < n
-    hu = (good.named k hk).0
+stepped : (pairs : List (ℕ × ℕ)) (u v a w b : ℕ) → Newly pairs (u, v) a w → Through pairs u v w b → Through pairs u v a b
+stepped pairs u v a w b (inl s) (inl q) = inl (step s q)
+stepped pairs u v a w b (inl s) (inr q) = inr (step s q.0, q.1)
+stepped pairs u v a w b (inr e) rest =
+    inr (subst (λ x. Order pairs x u) (ap (λ p. p.0) e) same, ⊎_elim (λ q. subst (λ x. Order pairs x b) (sym (ap (λ p. p.1) e)) q) (λ q. q.1) rest)
 
-    hv : v < n
-    hv = (good.named k hk).1
+order_back : (pairs : List (ℕ × ℕ)) (u v a b : ℕ) → Order (pairs ++ (u, v) ∷ []) a b → Through pairs u v a b
+order_back pairs u v a b same = inl same
+order_back pairs u v a b (step {v = w} s rest) = stepped pairs u v a w b (stated_back pairs (u, v) a w s) (order_back pairs u v w b rest)
+
+pub orders_none : (n : ℕ) (above : ℕ → ℕ → Bool) → ((u v : ℕ) → u < n → above u v ≡ eqb u v) → Orders n [] above
+orders_none n above is u v hu hv = (λ e. subst (Order [] u) (eqb-true u v (sym (is u v hu) ∙ e)) same, λ o. is u v hu ∙ eq-eqb u v (alone o))
+  where
+    alone : {u v : ℕ} → Order [] u v → u ≡ v
+    alone same = refl
+    alone (step (k, hk, e) rest) = absurd (omega (arith, hk))
+
+pub orders_more : (n : ℕ) (pairs : List (ℕ × ℕ)) (above after : ℕ → ℕ → Bool) (u v : ℕ) → u < n → v < n
+    → ((w x : ℕ) → w < n → after w x ≡ related above u v w x) → Orders n pairs above → Orders n (pairs ++ (u, v) ∷ []) after
+orders_more n pairs above after u v hu hv is orders a b ha hb = (
+  λ e. ⊎_elim (λ p. order_in pairs (u, v) a b ((orders a b ha hb).0 p))
+      (λ p. let q = and_parts (above a u) (above v b) p in
+        order_trans (order_in pairs (u, v) a u ((orders a u ha hu).0 q.0)) (order_trans (order_last pairs u v) (order_in pairs (u, v) v b ((orders v b hv hb).0 q.1))))
+      (or_cases (above a b) (above a u && above v b) (sym (is a b ha) ∙ e)),
+  λ o. is a b ha ∙ ⊎_elim (λ p. or_left (above a b) (above a u && above v b) ((orders a b ha hb).1 p))
+      (λ p. or_right (above a b) (above a u && above v b) (and_from (above a u) (above v b) ((orders a u ha hu).1 p.0) ((orders v b hv hb).1 p.1)))
+      (order_back pairs u v a b o),
+)
 
 -- worlds of which none is above another
 pub ordered_alone : (n : ℕ) (above : ℕ → ℕ → Bool) → ((u v : ℕ) → u < n → above u v ≡ eqb u v) → (reflexive n above && transitive n above) ≡ true
@@ -140,7 +162,7 @@ grown_above n up after u v rows w x h = ap (λ y. holds y x) (rows w h) ∙ grow
 
 -- `above` is the pairs' order, so its algebra is that of the frame of the pairs
 
-pub closure_frame : (n : ℕ) (pairs : List (ℕ × ℕ)) (above : ℕ → ℕ → Bool) → ((u v : ℕ) → u < n → v < n → Decides (above u v) (Order pairs u v)) → FrameOf n pairs (kripke n above)
+pub closure_frame : (n : ℕ) (pairs : List (ℕ × ℕ)) (above : ℕ → ℕ → Bool) → Orders n pairs above → FrameOf n pairs (kripke n above)
 closure_frame n pairs above c = told_by n _ (Order pairs) (kripke n above) (λ u v hu hv. (c u v hu hv).0) (λ u v hu hv. (c u v hu hv).1) (kripke_worlds n above)
 
 -- the order of the first pairs, one put in after another
@@ -148,17 +170,14 @@ abbrev upto : List (ℕ × ℕ) → ℕ → ℕ → ℕ → Bool
 upto pairs zero u v = eqb u v
 upto pairs (suc k) u v = related (upto pairs k) (get_or pairs k (0, 0)).0 (get_or pairs k (0, 0)).1 u v
 
-built : (n : ℕ) (pairs : List (ℕ × ℕ)) → Loadable n pairs → (k : ℕ) → k ≤ length pairs → ((reflexive n (upto pairs k) && transitive n (upto pairs k)) ≡ true) × HalfClosed n pairs k (upto pairs k)
-built n pairs good zero h = (ordered_alone n eqb (λ u v _. refl), closed_none n pairs eqb (λ u v _. refl))
+built : (n : ℕ) (pairs : List (ℕ × ℕ)) → Loadable n pairs → (k : ℕ) → k ≤ length pairs → Orders n (take k pairs) (upto pairs k)
+built n pairs good zero h = orders_none n eqb (λ u v _. refl)
 built n pairs good (suc k) h =
-    let b = built n pairs good k (omega arith) in
-    let here = good.named k h in (
-      related_ordered n (upto pairs k) b.0 _ _ here.0 here.1 (upto pairs (suc k)) (λ w x _. refl),
-      subst (λ j. HalfClosed n pairs j (upto pairs (suc k))) (add-one k) (closed_more n pairs k (upto pairs k) (upto pairs (suc k)) good b.0 h (λ w x _. refl) b.1),
-    )
+    let here = good.named k h in
+    subst (λ ps. Orders n ps (upto pairs (suc k))) (sym (take-suc pairs k (0, 0) h))
+    (orders_more n (take k pairs) (upto pairs k) (upto pairs (suc k)) _ _ here.0 here.1 (λ w x _. refl) (built n pairs good k (omega arith)))
 
 pub some_frame : (n : ℕ) (pairs : List (ℕ × ℕ)) → Loadable n pairs → (m : Meaning) × FrameOf n pairs m
 some_frame n pairs good =
-    let b = built n pairs good (length pairs) (omega arith) in
     let above = upto pairs (length pairs) in
-    (kripke n above, closure_frame n pairs above (closed_all n pairs above good b.0 b.1))
+    (kripke n above, closure_frame n pairs above (subst (λ ps. Orders n ps above) (take-length pairs) (built n pairs good (length pairs) (omega arith))))
