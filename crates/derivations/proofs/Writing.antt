@@ -48,6 +48,7 @@ leaves s after i n line below more w = record {
   more = omega (arith, more, w.count);
   store = w.store;
   mode = w.mode;
+  slice = w.slice;
   long = ap length w.lines ∙ length-set s.lines.now i line;
   rest = ap (λ es. drop after.count es) w.lines ∙ drop-set-lt after.count s.lines.now i line (omega (arith, w.count));
 }

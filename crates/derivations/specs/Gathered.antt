@@ -1,5 +1,6 @@
 -- The histories of a derivation that gathers premises.
 use Rattle.std.specs.Prelude.{◌≡◌, ℕ, List, length}
+use Rattle.std.specs.Borrow.{MutBor}
 use Rattle.formulas.specs.declared.store.Store.{Store}
 use Rattle.fitch.specs.Calls.{premise_checks}
 use Rattle.fitch.specs.Checks.{Check}
@@ -19,9 +20,10 @@ Gathered g h = Gathers g.sheet.mode (formulas_of g.sheet) g.sheet.lines.now g.sh
 abbrev pub checks : Gathering → History → ℕ → List Check
 checks g h place = premise_checks (formulas_of g.sheet) (length g.sheet.lines.now) h place
 
--- a derivation with no line yet, over a store and line records as they were
-pub record Fresh (store : Store) (lines : List Line) (mode : Mode) (g : Gathering) : Type 0 where
+-- a derivation with no line yet, over a store and the slice of line records that is lent, as it was
+pub record Fresh (store : Store) (lines : MutBor (List Line)) (mode : Mode) (g : Gathering) : Type 0 where
   pub store_is : g.sheet.store.now ≡ store
-  pub lines_are : g.sheet.lines.now ≡ lines
+  pub slice_is : g.sheet.lines.ghost_name ≡ lines.ghost_name
+  pub lines_are : g.sheet.lines.now ≡ lines.now
   pub mode_is : g.sheet.mode ≡ mode
   pub none : g.sheet.count ≡ 0

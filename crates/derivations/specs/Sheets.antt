@@ -25,18 +25,20 @@ HasRoom s = (s.count < most_lines) × (s.count < length s.lines.now)
 abbrev pub Checked : Check → Result Unit Refusal → Type 0
 Checked c r = MatchResult r (λ _. c.passes) c.fails
 
--- what no call changes: the store, the mode, how long the slice is, and the records past the lines, which are not fewer than before
+-- what no call changes: the store, the mode, which slice is lent and how long it is, and the records past the lines, which are not fewer than before
 pub record Leaves (s after : Sheet) : Type 0 where
   pub more : s.count ≤ after.count
   pub store : after.store ≡ s.store
   pub mode : after.mode ≡ s.mode
+  pub slice : after.lines.ghost_name ≡ s.lines.ghost_name
   pub long : length after.lines.now ≡ length s.lines.now
   pub rest : drop after.count after.lines.now ≡ drop after.count s.lines.now
 
--- the sheet with other records, and another number of lines
+-- the sheet with other records in the slice that it holds, and another number of lines
 pub record Becomes (s : Sheet) (es : List Line) (n : ℕ) (after : Sheet) : Type 0 where
   pub store : after.store ≡ s.store
   pub mode : after.mode ≡ s.mode
+  pub slice : after.lines.ghost_name ≡ s.lines.ghost_name
   pub count : after.count ≡ n
   pub lines : after.lines.now ≡ es
 

@@ -1,5 +1,5 @@
 -- Records are run one after the other.
-use Rattle.std.proofs.Common.{◌≡◌, ℕ, ◌+◌, ◌-◌, ◌<◌, ◌≤◌, List, ◌∷◌, map, length, get_or, drop, Ok, Err, Result, sym, refl, ap, ap₂, ◌∙◌, subst, arith}
+use Rattle.std.proofs.Common.{◌≡◌, ℕ, ◌+◌, ◌-◌, ◌<◌, ◌≤◌, List, ◌∷◌, map, length, get_or, drop, Some, None, Option, Err, sym, refl, ap, ap₂, ◌∙◌, subst, arith}
 use Rattle.std.proofs.lemmas.List.{drop-drop, drop-map, drop_more, drop_all}
 use Rattle.fitch.specs.Checks.{Accepted, Refused}
 use Rattle.fitch.specs.History.{History}
@@ -16,10 +16,10 @@ use Rattle.entries.specs.declared.entry.Entry.{Entry}
 use Rattle.entries.specs.declared.entry.Entry.TheVariants.{Mode}
 use Rattle.fitch.specs.declared.mode.Mode.TheVariants.{Constructive}
 use Rattle.formulas.specs.Stores.{contents}
-use Rattle.scripts.specs.Runs.{Steps, premise_steps, act_steps, Runs, Ran, RanOne}
+use Rattle.scripts.specs.Runs.{Steps, premise_steps, act_steps, OfDerivation, Runs, Ran, RanOne}
 
 pub nothing_left : (s : Sheet) → Leaves s s
-nothing_left s = record { more = omega arith; store = refl; mode = refl; long = refl; rest = refl }
+nothing_left s = record { more = omega arith; store = refl; mode = refl; slice = refl; long = refl; rest = refl }
 
 drop_further : {A : Type 0} (j k : ℕ) (xs ys : List A) → j ≤ k → drop j xs ≡ drop j ys → drop k xs ≡ drop k ys
 drop_further {A = A} j k xs ys le e = sym (split xs) ∙ ap (drop (k - j)) e ∙ split ys
@@ -32,6 +32,7 @@ leave_on {s} {t} {u} first second = record {
   more = omega (arith, first.more, second.more);
   store = second.store ∙ first.store;
   mode = second.mode ∙ first.mode;
+  slice = second.slice ∙ first.slice;
   long = second.long ∙ first.long;
   rest = second.rest ∙ drop_further t.count u.count t.lines.now s.lines.now second.more first.rest;
 }
@@ -42,39 +43,45 @@ nothing_left_open o = record { premises = refl; sheet = nothing_left o.sheet }
 pub leave_on_open : {o p q : Open} → LeavesOpen o p → LeavesOpen p q → LeavesOpen o q
 leave_on_open first second = record { premises = second.premises ∙ first.premises; sheet = leave_on first.sheet second.sheet }
 
+pub of_derivation : {P Q : ℕ → Refusal → Type 0} → ((n : ℕ) (e : Refusal) → P n e → Q n e) → (u : Fault) → OfDerivation P u → OfDerivation Q u
+of_derivation f TooLong p = p
+of_derivation f (At n (reasons.Form field)) p = p
+of_derivation f (At n (reasons.Formula refusal)) p = p
+of_derivation f (At n (reasons.Derivation e)) p = f n e p
+of_derivation f (At n (reasons.Algebra refusal)) p = p
+
 module _ (steps : Steps) (first : ℕ) (all : List (Said ℕ)) where
   -- after a history and its first n records, those that are left go on from here
   abbrev pub SoFar : History → ℕ → History → Type 0
-  SoFar before n h = (r : Result History (ℕ × Refusal)) → Runs steps h (first + n) (drop n all) r → Runs steps before first all r
+  SoFar before n h = (k : History) (e : Option (ℕ × Refusal)) → Runs steps h (first + n) (drop n all) k e → Runs steps before first all k e
 
   pub none_yet : (h : History) → SoFar h 0 h
-  none_yet h r runs = subst (λ k. Runs steps h k all r) (plus_zero first) runs
+  none_yet h k e runs = subst (λ n. Runs steps h n all k e) (plus_zero first) runs
     where
-      plus_zero : (k : ℕ) → k + 0 ≡ k
-      plus_zero k = omega arith
+      plus_zero : (n : ℕ) → n + 0 ≡ n
+      plus_zero n = omega arith
 
   -- x is record n of those to be run, counted from 0
   abbrev pub At_hand : ℕ → Said ℕ → Type 0
   At_hand n x = drop n all ≡ x ∷ drop (n + 1) all
 
   pub one_more : (before h : History) (n : ℕ) (x : Said ℕ) → At_hand n x → SoFar before n h → Accepted (steps.checks h x) → SoFar before (n + 1) (steps.after h x)
-  one_more before h n x here so_far accepted r runs =
-      so_far r (subst (λ xs. Runs steps h (first + n) xs r) (sym here) (Runs.next accepted (subst (λ k. Runs steps (steps.after h x) k (drop (n + 1) all) r) (omega arith) runs)))
+  one_more before h n x here so_far accepted k e runs =
+      so_far k e (subst (λ xs. Runs steps h (first + n) xs k e) (sym here) (Runs.next accepted (subst (λ i. Runs steps (steps.after h x) i (drop (n + 1) all) k e) (omega arith) runs)))
 
-  stopped : (before h : History) (n : ℕ) (x : Said ℕ) (e : Refusal) → At_hand n x → SoFar before n h → Refused (steps.checks h x) e → Runs steps before first all (Err (first + n, e))
-  stopped before h n x e here so_far refused = so_far (Err (first + n, e)) (subst (λ xs. Runs steps h (first + n) xs (Err (first + n, e))) (sym here) (Runs.stop refused))
+  stopped : (before h : History) (n : ℕ) (x : Said ℕ) (e : Refusal) → At_hand n x → SoFar before n h → Refused (steps.checks h x) e → Runs steps before first all h (Some (first + n, e))
+  stopped before h n x e here so_far refused = so_far h (Some (first + n, e)) (subst (λ xs. Runs steps h (first + n) xs h (Some (first + n, e))) (sym here) (Runs.stop refused))
 
-  pub all_run : (before h : History) (n : ℕ) → length all ≤ n → SoFar before n h → Runs steps before first all (Ok h)
-  all_run before h n le so_far = so_far (Ok h) (subst (λ xs. Runs steps h (first + n) xs (Ok h)) (sym (drop_all n all le)) Runs.done)
+  pub all_run : (before h : History) (n : ℕ) → length all ≤ n → SoFar before n h → Runs steps before first all h None
+  all_run before h n le so_far = so_far h None (subst (λ xs. Runs steps h (first + n) xs h None) (sym (drop_all n all le)) Runs.done)
 
   -- a fault of the record at hand is one of the run
-  pub stopped_by : (Has Has_then : History → Type 0) (before h : History) (n : ℕ) (x : Said ℕ) (fault : Fault) → At_hand n x → SoFar before n h → RanOne steps Has h (first + n) x (Err fault) → Ran steps Has_then before first all (Err fault)
-  stopped_by Has Has_then before h n x TooLong here so_far ran = ran
-  stopped_by Has Has_then before h n x (At k (reasons.Form field)) here so_far ran = ran
-  stopped_by Has Has_then before h n x (At k (reasons.Formula refusal)) here so_far ran = ran
-  stopped_by Has Has_then before h n x (At k (reasons.Derivation e)) here so_far ran =
-      subst (λ i. Runs steps before first all (Err (i, e))) (sym ran.0) (stopped before h n x e here so_far ran.1)
-  stopped_by Has Has_then before h n x (At k (reasons.Algebra refusal)) here so_far ran = ran
+  pub stopped_by : (Has : History → Type 0) (before h : History) (n : ℕ) (x : Said ℕ) (fault : Fault) → At_hand n x → SoFar before n h → RanOne steps Has h (first + n) x (Err fault) → Ran steps Has before first all (Err fault)
+  stopped_by Has before h n x fault here so_far ran = (
+    h,
+    of_derivation (λ i e p. subst (λ j. Runs steps before first all h (Some (j, e))) (sym p.0) (stopped before h n x e here so_far p.1)) fault ran.0,
+    ran.1,
+  )
 
 -- what stands past the end of the records
 abbrev pub no_entry : Entry ℕ

@@ -1,5 +1,5 @@
 -- What a proof file's records show, read into a store that holds fs.
-use Rattle.std.specs.Prelude.{◌≡◌, ℕ, ◌+◌, ◌⊎◌, Bool, true, false, List, [], ◌∷◌, length, drop, Ok, Err, Result}
+use Rattle.std.specs.Prelude.{◌≡◌, ℕ, ◌+◌, ◌⊎◌, Bool, true, false, List, [], ◌∷◌, length, drop, Some, None, Option, Ok, Err, Result}
 use Rattle.std.specs.List.{before_first, position_or_len}
 use Rattle.grammar.specs.Formula.{Formula}
 use Rattle.fitch.specs.Calls.{sequent_checks}
@@ -16,28 +16,14 @@ use Rattle.scripts.specs.Runs.{premise_steps, act_steps, Runs, OfDerivation}
 
 -- the records that end the gathering
 abbrev pub acts : Said ℕ → Bool
-acts (Said.mode m) = false
-acts (Said.premise p) = false
 acts (Said.assume p) = true
 acts (Said.step p r cs) = true
 acts Said.close = true
-acts Said.part = false
-acts (Said.base n) = false
-acts (Said.pair u v) = false
-acts (Said.nucleus e) = false
-acts (Said.value a e) = false
+acts _ = false
 
 abbrev mode_by : Said ℕ → Mode
 mode_by (Said.mode m) = m
-mode_by (Said.premise p) = Constructive
-mode_by (Said.assume p) = Constructive
-mode_by (Said.step p r cs) = Constructive
-mode_by Said.close = Constructive
-mode_by Said.part = Constructive
-mode_by (Said.base n) = Constructive
-mode_by (Said.pair u v) = Constructive
-mode_by (Said.nucleus e) = Constructive
-mode_by (Said.value a e) = Constructive
+mode_by _ = Constructive
 
 -- the mode that the first record says; constructive, where it says none
 abbrev pub mode_of : List (Said ℕ) → Mode
@@ -51,21 +37,21 @@ front xs = before_first acts xs
 abbrev pub back : List (Said ℕ) → List (Said ℕ)
 back xs = drop (position_or_len acts xs) xs
 
-abbrev pub GoesOn : List Formula → ℕ → List (Said ℕ) → Result History (ℕ × Refusal) → Result History (ℕ × Refusal) → Type 0
-GoesOn fs slice xs (Ok h) r = Runs (act_steps (mode_of xs) fs slice) (begin ∷ h) (length (front xs) + 1) (back xs) r
-GoesOn fs slice xs (Err e) r = r ≡ Err e
+-- after the premises, which reached h: the others, unless a fault d stopped the premises
+abbrev pub GoesOn : List Formula → ℕ → List (Said ℕ) → History → Option (ℕ × Refusal) → History → Option (ℕ × Refusal) → Type 0
+GoesOn fs slice xs h None k e = Runs (act_steps (mode_of xs) fs slice) (begin ∷ h) (length (front xs) + 1) (back xs) k e
+GoesOn fs slice xs h (Some d) k e = (k ≡ h) × (e ≡ Some d)
 
--- all records, numbered from 1: the premises, and then the others
-abbrev pub RunsAll : List Formula → ℕ → List (Said ℕ) → Result History (ℕ × Refusal) → Type 0
-RunsAll fs slice xs r = (a : Result History (ℕ × Refusal)) × Runs (premise_steps fs slice) [] 1 (front xs) a × GoesOn fs slice xs a r
+-- all records, numbered from 1, the premises and then the others: the history that they reach, and the fault that stopped them, if one did
+abbrev pub RunsAll : List Formula → ℕ → List (Said ℕ) → History → Option (ℕ × Refusal) → Type 0
+RunsAll fs slice xs k e = (h : History) × (d : Option (ℕ × Refusal)) × Runs (premise_steps fs slice) [] 1 (front xs) h d × GoesOn fs slice xs h d k e
 
 -- what a history of so many records shows, or why it shows nothing
 abbrev pub Concluded : Mode → List Formula → History → ℕ → Result Checked Fault → Type 0
 Concluded mode fs h records (Ok c) = Accepted (sequent_checks h) × SequentOf mode fs h c.sequent × (c.lines ≡ count h)
 Concluded mode fs h records (Err fault) = OfDerivation (λ n e. (n ≡ records) × Refused (sequent_checks h) e) fault
 
--- what the records show, or the first fault: of a record, or of the sequent, which is told at the last record
-abbrev pub Derives : List Formula → ℕ → List (Said ℕ) → Result Checked Fault → Type 0
-Derives fs slice xs (Ok c) = (h : History) × RunsAll fs slice xs (Ok h) × Concluded (mode_of xs) fs h (length xs) (Ok c)
-Derives fs slice xs (Err fault) =
-    OfDerivation (λ n e. RunsAll fs slice xs (Err (n, e)) ⊎ ((n ≡ length xs) × ((h : History) × RunsAll fs slice xs (Ok h) × Refused (sequent_checks h) e))) fault
+-- the records reach h, and show this, or have this first fault: of a record, or of the sequent, which is told at the last record
+abbrev pub Derives : List Formula → ℕ → List (Said ℕ) → History → Result Checked Fault → Type 0
+Derives fs slice xs h (Ok c) = RunsAll fs slice xs h None × Concluded (mode_of xs) fs h (length xs) (Ok c)
+Derives fs slice xs h (Err fault) = OfDerivation (λ n e. RunsAll fs slice xs h (Some (n, e)) ⊎ (RunsAll fs slice xs h None × (n ≡ length xs) × Refused (sequent_checks h) e)) fault

@@ -18,7 +18,7 @@ impl<'s, 'l> Gathering<'s, 'l> {
     // A derivation with no line, over a store and a slice of line records, of which the first 1,024 are used.
     pub fn new(store: &'s Store, lines: &'l mut [Line], mode: Mode) -> Gathering<'s, 'l>
         ensures history { Gathered result [] }
-        ensures fresh { Fresh store.now lines.old mode result }
+        ensures fresh { Fresh store.now lines.entry mode result }
     {
         Gathering {
             sheet: Sheet {

@@ -1,11 +1,11 @@
 // The records of assumptions, steps and closes.
-ghost use Rattle.std.specs.Prelude.{◌≡◌, ◌+◌, ◌<◌, ◌^◌, ◌∷◌, length, map, MatchResult};
+ghost use Rattle.std.specs.Prelude.{◌≡◌, ◌+◌, ◌<◌, ◌^◌, ◌∷◌, length, map, MatchResult, OnErr};
 ghost use Rattle.fitch.specs.Checks.{Accepted, Refused};
 ghost use Rattle.fitch.specs.History.{History, step as next_step};
-ghost use Rattle.derivations.specs.Derived.{mode_in, Derived, Leaves, checks_of_step};
-ghost use Rattle.derivations.specs.Sheets.{formulas_of, formula_of};
+ghost use Rattle.derivations.specs.Derived.{Derived, Leaves, checks_of_step};
+ghost use Rattle.derivations.specs.Sheets.{formula_of};
 ghost use Rattle.entries.specs.Entries.{cited, stored};
-ghost use Rattle.scripts.specs.Runs.{act_steps, Ran, RanOne};
+ghost use Rattle.scripts.specs.Runs.{steps_in, Ran, RanOne};
 
 use answers::fault::{Fault, Reason};
 use derivations::open::Open;
@@ -23,6 +23,7 @@ fn step(
 ) -> Result<(), Refusal>
     ensures ran { (h : History) → Derived derivation.old h → MatchResult result (λ _. Accepted (checks_of_step derivation.old h place rule (cited citations)) × Derived derivation.new (next_step (formula_of derivation.old.sheet place) rule (cited citations) ∷ h)) (Refused (checks_of_step derivation.old h place rule (cited citations))) }
     ensures leaves { Leaves derivation.old derivation.new }
+    ensures unchanged { OnErr result (derivation.new ≡ derivation.old) }
 {
     derivation.step(place, rule, citations.as_slice())?;
     Ok(())
@@ -30,8 +31,9 @@ fn step(
 
 // One record; one that is no assumption, step or close is passed over.
 fn act(derivation: &mut Open, entry: Entry<usize>) -> Result<(), Refusal>
-    ensures ran { (h : History) → Derived derivation.old h → MatchResult result (λ _. Accepted ((act_steps (mode_in derivation.old) (formulas_of derivation.old.sheet) (length derivation.old.sheet.lines.now)).checks h (stored entry)) × Derived derivation.new ((act_steps (mode_in derivation.old) (formulas_of derivation.old.sheet) (length derivation.old.sheet.lines.now)).after h (stored entry))) (Refused ((act_steps (mode_in derivation.old) (formulas_of derivation.old.sheet) (length derivation.old.sheet.lines.now)).checks h (stored entry))) }
+    ensures ran { (h : History) → Derived derivation.old h → MatchResult result (λ _. Accepted ((steps_in derivation.old).checks h (stored entry)) × Derived derivation.new ((steps_in derivation.old).after h (stored entry))) (Refused ((steps_in derivation.old).checks h (stored entry))) }
     ensures leaves { Leaves derivation.old derivation.new }
+    ensures unchanged { OnErr result (derivation.new ≡ derivation.old) }
 {
     match entry {
         Entry::Assume(place) => {
@@ -46,7 +48,7 @@ fn act(derivation: &mut Open, entry: Entry<usize>) -> Result<(), Refusal>
 
 // The record of a number.
 fn act_one(derivation: &mut Open, entry: Entry<usize>, number: usize) -> Result<(), Fault>
-    ensures ran { (h : History) → Derived derivation.old h → RanOne (act_steps (mode_in derivation.old) (formulas_of derivation.old.sheet) (length derivation.old.sheet.lines.now)) (Derived derivation.new) h number (stored entry) result }
+    ensures ran { (h : History) → Derived derivation.old h → RanOne (steps_in derivation.old) (Derived derivation.new) h number (stored entry) result }
     ensures leaves { Leaves derivation.old derivation.new }
 {
     act(derivation, entry).map_err(|refusal| Fault::At(number, Reason::Derivation(refusal)))
@@ -58,7 +60,7 @@ pub(crate) fn act_all(
     first: usize,
 ) -> Result<(), Fault>
     requires { first + length entries.now < 2 ^ 64 }
-    ensures ran { (h : History) → Derived derivation.old h → Ran (act_steps (mode_in derivation.old) (formulas_of derivation.old.sheet) (length derivation.old.sheet.lines.now)) (Derived derivation.new) h first (map stored entries.now) result }
+    ensures ran { (h : History) → Derived derivation.old h → Ran (steps_in derivation.old) (Derived derivation.new) h first (map stored entries.now) result }
     ensures leaves { Leaves derivation.old derivation.new }
 {
     for (place, entry) in entries.iter().enumerate() {

@@ -1,0 +1,118 @@
+-- A derivation shows one thing, or has one first fault.
+use Rattle.std.proofs.Common.{◌≡◌, ℕ, suc, ◌<◌, ◌⊎◌, inl, inr, ⊎_elim, List, [], ◌∷◌, map, length, get_or, Some, None, Option, Ok, Err, Result, refl, sym, ap, ap₂, ◌∙◌, subst, arith}
+use Rattle.std.proofs.lemmas.List.{get_or-take, length-take}
+use Rattle.grammar.specs.Contents.{formula_at, Once}
+use Rattle.grammar.specs.Formula.{Formula}
+use Rattle.grammar.proofs.Sameness.{one_place}
+use Rattle.fitch.specs.Calls.{sequent_checks}
+use Rattle.fitch.specs.Checks.{Refused}
+use Rattle.fitch.specs.Exact.{Concludes}
+use Rattle.fitch.specs.History.{History, Line, line_at}
+use Rattle.fitch.specs.declared.mode.Mode.{Mode}
+use Rattle.fitch.specs.declared.refusal.Refusal.{Refusal}
+use Rattle.fitch.proofs.Answering.{one_answers}
+use Rattle.ledger.specs.Sequents.{SequentOf, premise_places}
+use Rattle.ledger.specs.declared.sequent.Sequent.{Sequent}
+use Rattle.entries.specs.Entries.{Said}
+use Rattle.answers.specs.declared.checked.Checked.{Checked}
+use Rattle.answers.specs.declared.fault.Fault.{Fault}
+use Rattle.answers.specs.declared.fault.Fault.TheVariants.{TooLong, At}
+use Rattle.answers.specs.declared.fault.Reason.TheVariants as reasons
+use Rattle.scripts.specs.Proofs.{mode_of, Concluded, Derives, RunsAll}
+use Rattle.scripts.specs.Settled.{SameShown, SameAnswer, OneDerivation}
+use Rattle.scripts.proofs.Settling.{runs_all_once}
+
+abbrev formula_or : Formula → Option Line → Formula
+formula_or d None = d
+formula_or d (Some l) = l.formula
+
+one_conclusion : {h : History} {A B : Formula} → Concludes h A → Concludes h B → A ≡ B
+one_conclusion {h} {A} {B} p q =
+    let ends : p.end ≡ q.end = omega (arith, q.latest p.end A p.last, p.latest q.end B q.last) in
+    ap (formula_or A) (sym p.last ∙ ap (line_at h) ends ∙ q.last)
+
+abbrev first_or : {X : Type 0} → X → List X → X
+first_or d [] = d
+first_or d (x ∷ xs) = x
+
+abbrev rest_of : {X : Type 0} → List X → List X
+rest_of [] = []
+rest_of (x ∷ xs) = xs
+
+one_places : (fs : List Formula) → Once fs → (ps qs : List ℕ) → ((k : ℕ) → k < length ps → get_or ps k 0 < length fs) → ((k : ℕ) → k < length qs → get_or qs k 0 < length fs)
+    → map (formula_at fs) ps ≡ map (formula_at fs) qs → ps ≡ qs
+one_places fs once [] [] within also e = refl
+one_places fs once [] (q ∷ qs) within also e = absurd (cc)
+one_places fs once (p ∷ ps) [] within also e = absurd (cc)
+one_places fs once (p ∷ ps) (q ∷ qs) within also e =
+    ap₂ (λ x xs. x ∷ xs)
+    (one_place fs once p q (within 0 (omega arith)) (also 0 (omega arith)) (ap (first_or (formula_at fs p)) e))
+    (one_places fs once ps qs (λ k lt. within (suc k) (omega (arith, lt))) (λ k lt. also (suc k) (omega (arith, lt))) (ap rest_of e))
+
+within_places : {mode : Mode} {fs : List Formula} {h : History} {s : Sequent} → SequentOf mode fs h s → (k : ℕ) → k < length (premise_places s) → get_or (premise_places s) k 0 < length fs
+within_places {fs = fs} {s = s} q k lt =
+    let few : k < s.count = omega (arith, lt, length-take s.count s.places) in
+    subst (λ p. p < length fs) (sym (get_or-take s.count s.places k 0 few)) (q.premises_in k few)
+
+same_shown : {mode : Mode} {fs : List Formula} {h : History} (n : ℕ) → Once fs → (c d : Checked) → Concluded mode fs h n (Ok c) → Concluded mode fs h n (Ok d) → SameShown c d
+same_shown {fs = fs} n once c d p q = record {
+  mode = p.1.mode_is ∙ sym q.1.mode_is;
+  premises = one_places fs once (premise_places c.sequent) (premise_places d.sequent) (within_places p.1) (within_places q.1) (p.1.premises_are ∙ sym q.1.premises_are);
+  conclusion = one_place fs once c.sequent.conclusion d.sequent.conclusion p.1.conclusion_in q.1.conclusion_in (one_conclusion p.1.concludes q.1.concludes);
+  lines = p.2 ∙ sym q.2;
+}
+
+abbrev fault_at : ℕ → Refusal → Fault
+fault_at n e = At n (reasons.Derivation e)
+
+abbrev fault_or : Fault → Option (ℕ × Refusal) → Fault
+fault_or u None = u
+fault_or u (Some e) = fault_at e.0 e.1
+
+module _ (fs : List Formula) (slice : ℕ) (xs : List (Said ℕ)) where
+  -- what stops at a record, or is refused after the last
+  abbrev RefusedAt : History → ℕ → Refusal → Type 0
+  RefusedAt h n e = RunsAll fs slice xs h (Some (n, e)) ⊎ (RunsAll fs slice xs h None × (n ≡ length xs) × Refused (sequent_checks h) e)
+
+  refused_at : (h : History) (u : Fault) → Derives fs slice xs h (Err u) → (n : ℕ) × (e : Refusal) × (u ≡ fault_at n e) × RefusedAt h n e
+  refused_at h TooLong p = absurd p
+  refused_at h (At n (reasons.Form field)) p = absurd p
+  refused_at h (At n (reasons.Formula refusal)) p = absurd p
+  refused_at h (At n (reasons.Derivation e)) p = (n, e, refl, p)
+  refused_at h (At n (reasons.Algebra refusal)) p = absurd p
+
+  module _ (h k : History) where
+    never_both : (n : ℕ) (e : Refusal) → RunsAll fs slice xs h None → RunsAll fs slice xs k (Some (n, e)) → ⊥
+    never_both n e p q = let same = (runs_all_once fs slice xs h k None (Some (n, e)) p q).1 in cc
+
+    shown_or_refused : (c : Checked) (u : Fault) → Derives fs slice xs h (Ok c) → Derives fs slice xs k (Err u) → ⊥
+    shown_or_refused c u p q =
+        let r = refused_at k u q in
+        ⊎_elim (λ stops. never_both r.0 r.1 p.0 stops)
+        (λ late. (one_answers.sequent h).apart r.1 p.1.0 (subst (λ j. Refused (sequent_checks j) r.1) (sym (runs_all_once fs slice xs h k None None p.0 late.0).0) late.2)) r.3
+
+    one_refusal : (n m : ℕ) (e d : Refusal) → RefusedAt h n e → RefusedAt k m d → (h ≡ k) × (fault_at n e ≡ fault_at m d)
+    one_refusal n m e d (inl p) (inl q) = let same = runs_all_once fs slice xs h k (Some (n, e)) (Some (m, d)) p q in (same.0, ap (fault_or TooLong) same.1)
+    one_refusal n m e d (inl p) (inr q) = let same = (runs_all_once fs slice xs h k (Some (n, e)) None p q.0).1 in absurd (cc)
+    one_refusal n m e d (inr p) (inl q) = absurd (never_both m d p.0 q)
+    one_refusal n m e d (inr p) (inr q) =
+        let same = (runs_all_once fs slice xs h k None None p.0 q.0).0 in
+        (same, ap₂ fault_at (p.1 ∙ sym q.1) ((one_answers.sequent h).single e d p.2 (subst (λ j. Refused (sequent_checks j) d) (sym same) q.2)))
+
+    same_fault : (u v : Fault) → Derives fs slice xs h (Err u) → Derives fs slice xs k (Err v) → (h ≡ k) × (u ≡ v)
+    same_fault u v p q =
+        let r = refused_at h u p in
+        let t = refused_at k v q in
+        let one = one_refusal r.0 t.0 r.1 t.1 r.3 t.3 in
+        (one.0, r.2 ∙ one.1 ∙ sym t.2)
+
+derives_once : (fs : List Formula) (slice : ℕ) (xs : List (Said ℕ)) (h k : History) (a b : Result Checked Fault) → Once fs → Derives fs slice xs h a → Derives fs slice xs k b → (h ≡ k) × SameAnswer a b
+derives_once fs slice xs h k (Ok c) (Ok d) once p q =
+    let same = (runs_all_once fs slice xs h k None None p.0 q.0).0 in
+    (same, same_shown (length xs) once c d p.1 (subst (λ j. Concluded (mode_of xs) fs j (length xs) (Ok d)) (sym same) q.1))
+derives_once fs slice xs h k (Ok c) (Err v) once p q = absurd (shown_or_refused fs slice xs h k c v p q)
+derives_once fs slice xs h k (Err u) (Ok d) once p q = absurd (shown_or_refused fs slice xs k h d u q p)
+derives_once fs slice xs h k (Err u) (Err v) once p q = same_fault fs slice xs h k u v p q
+
+pub one_derivation : OneDerivation
+one_derivation = record { runs = runs_all_once; answers = derives_once }

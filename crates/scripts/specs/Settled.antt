@@ -1,0 +1,33 @@
+-- The records of a proof file do not end in two ways.
+use Rattle.std.specs.Prelude.{◌≡◌, ℕ, List, Ok, Err, Option, Result}
+use Rattle.grammar.specs.Contents.{Once}
+use Rattle.grammar.specs.Formula.{Formula}
+use Rattle.fitch.specs.History.{History}
+use Rattle.fitch.specs.declared.refusal.Refusal.{Refusal}
+use Rattle.ledger.specs.Sequents.{premise_places}
+use Rattle.entries.specs.Entries.{Said}
+use Rattle.answers.specs.declared.checked.Checked.{Checked}
+use Rattle.answers.specs.declared.fault.Fault.{Fault}
+use Rattle.scripts.specs.Proofs.{RunsAll, Derives}
+
+-- the same in all that is told
+pub record SameShown (c d : Checked) : Type 0 where
+  pub mode : c.sequent.mode ≡ d.sequent.mode
+  pub premises : premise_places c.sequent ≡ premise_places d.sequent
+  pub conclusion : c.sequent.conclusion ≡ d.sequent.conclusion
+  pub lines : c.lines ≡ d.lines
+
+abbrev pub SameAnswer : Result Checked Fault → Result Checked Fault → Type 0
+SameAnswer (Ok c) (Ok d) = SameShown c d
+SameAnswer (Ok c) (Err e) = ⊥
+SameAnswer (Err e) (Ok d) = ⊥
+SameAnswer (Err e) (Err d) = e ≡ d
+
+-- records reach one history, stopped by one fault or by none; and over formulas that are held once they show one thing, or have one first fault
+pub record OneDerivation : Type 0 where
+  pub runs :
+      (fs : List Formula) (slice : ℕ) (xs : List (Said ℕ)) (h k : History) (d e : Option (ℕ × Refusal))
+      → RunsAll fs slice xs h d → RunsAll fs slice xs k e → (h ≡ k) × (d ≡ e)
+  pub answers :
+      (fs : List Formula) (slice : ℕ) (xs : List (Said ℕ)) (h k : History) (a b : Result Checked Fault)
+      → Once fs → Derives fs slice xs h a → Derives fs slice xs k b → (h ≡ k) × SameAnswer a b
