@@ -1,3 +1,2 @@
-pub mod Readings
-pub mod Runnings
-pub mod Answers
+pub mod Settling
+pub mod Putting

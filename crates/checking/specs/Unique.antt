@@ -1,32 +1,33 @@
--- An input has no two answers.
+-- A proof file has one answer.
 use Rattle.std.specs.Prelude.{◌≡◌, ℕ, List, Ok, Err, Result}
 use Rattle.grammar.specs.Contents.{Once}
 use Rattle.grammar.specs.Formula.{Formula}
-use Rattle.ledger.specs.Sequents.{premise_places}
-use Rattle.entries.specs.Entries.{Said}
-use Rattle.entries.specs.declared.turn.Format.{Format}
+use Rattle.ledger.specs.declared.line.Line.{Line}
+use Rattle.entries.specs.declared.entry.Entry.{Entry}
 use Rattle.answers.specs.declared.checked.Checked.{Checked}
-use Rattle.answers.specs.declared.fault.Fault.{Fault}
-use Rattle.checking.specs.Checking.{InputSays, Shows}
+use Rattle.answers.specs.declared.unanswered.Unanswered.{Unanswered}
+use Rattle.scripts.specs.Settled.{SameShown}
+use Rattle.checking.specs.Checking.{Checks}
 
 -- the same in all that is told
-pub record SameShown (c d : Checked) : Type 0 where
-  pub mode : c.sequent.mode ≡ d.sequent.mode
-  pub premises : premise_places c.sequent ≡ premise_places d.sequent
-  pub conclusion : c.sequent.conclusion ≡ d.sequent.conclusion
-  pub lines : c.lines ≡ d.lines
+abbrev pub SameChecking : Result Checked Unanswered → Result Checked Unanswered → Type 0
+SameChecking (Ok c) (Ok d) = SameShown c d
+SameChecking (Err a) (Err b) = a ≡ b
+SameChecking _ _ = ⊥
 
-abbrev pub SameAnswer : Result Checked Fault → Result Checked Fault → Type 0
-SameAnswer (Ok c) (Ok d) = SameShown c d
-SameAnswer (Ok c) (Err e) = ⊥
-SameAnswer (Err e) (Ok d) = ⊥
-SameAnswer (Err e) (Err d) = e ≡ d
+-- no other answer a, and no other store that holds gs, is one to the proof file s
+abbrev pub Only : ℕ → List ℕ → List Formula → List Formula → List (Entry ℕ) → List Line → Result Checked Unanswered → Type 0
+Only capacity s fs gs entries lines a =
+    (hs : List Formula) (entries_then : List (Entry ℕ)) (lines_then : List Line) (b : Result Checked Unanswered)
+    → Checks capacity s fs hs entries entries_then lines lines_then b → SameChecking a b × (gs ≡ hs)
 
--- in a store that holds each formula once, an input says one thing, or has one first fault, and a proof file shows one thing, or has one first fault
-pub record OneAnswer : Type 0 where
-  pub reading :
-      (capacity : ℕ) (format : Format) (s : List ℕ) (fs gs hs : List Formula) (a b : Result (List (Said ℕ)) Fault)
-      → Once fs → InputSays capacity format s fs gs a → InputSays capacity format s fs hs b → (a ≡ b) × (gs ≡ hs)
-  pub checking :
-      (capacity slice : ℕ) (s : List ℕ) (fs gs hs : List Formula) (a b : Result Checked Fault)
-      → Once fs → Shows capacity slice s fs gs a → Shows capacity slice s fs hs b → SameAnswer a b × (gs ≡ hs)
+-- into a store that holds each formula once
+abbrev pub OneAnswer : Type 0
+OneAnswer =
+    (capacity : ℕ) (s : List ℕ) (fs gs : List Formula) (entries entries_then : List (Entry ℕ)) (lines lines_then : List Line) (a : Result Checked Unanswered)
+    → Once fs → Checks capacity s fs gs entries entries_then lines lines_then a → Only capacity s fs gs entries lines a
+
+-- the one answer a to the proof file s
+pub record Answers (capacity : ℕ) (s : List ℕ) (fs gs : List Formula) (entries entries_then : List (Entry ℕ)) (lines lines_then : List Line) (a : Result Checked Unanswered) : Type 0 where
+  pub checks : Checks capacity s fs gs entries entries_then lines lines_then a
+  pub only : Only capacity s fs gs entries lines a

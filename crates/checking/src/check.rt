@@ -1,31 +1,31 @@
 // Checks a proof file.
-ghost use Rattle.std.specs.Prelude.{length, map, IfOk};
+ghost use Rattle.std.specs.Prelude.{map, IfOk};
 ghost use Rattle.formulas.specs.Stores.{capacity, contents, OthersStay};
 ghost use Rattle.grammar.specs.Contents.{formula_at};
 ghost use Rattle.ledger.specs.Sequents.{premise_places};
 ghost use Rattle.soundness.specs.Soundness.{Entails};
-ghost use Rattle.checking.specs.Checking.{Checks};
+ghost use Rattle.checking.specs.Unique.{Answers};
 
-use crate::answer::Unanswered;
 use answers::checked::Checked;
+use answers::unanswered::Unanswered;
+use entries::entry::Entry;
 use entries::turn::Format;
 use formulas::store::Store;
 use ledger::line::Line;
 use readings::read::read_input;
 use scripts::derive::derive;
-use std::alloc::Global;
 
-// What a proof file shows, its formulas read into the store and its lines written to the line records; or its first fault.
+// What a proof file shows, its formulas read into the store, its records into the entries, and its lines written to the line records; or its first fault; or that there are fewer entries than records.
 pub fn check(
-    heap: Global,
     store: &mut Store,
+    entries: &mut [Entry<usize>],
     lines: &mut [Line],
     input: &[u8],
 ) -> Result<Checked, Unanswered>
-    ensures exact { Checks (capacity store.old) (length lines.old) input.now (contents store.old) (contents store.new) result }
+    ensures exact { Answers (capacity store.old) input.now (contents store.old) (contents store.new) entries.old entries.new lines.old lines.new result }
     ensures entails { IfOk result (λ c. Entails c.sequent.mode (map (formula_at (contents store.new)) (premise_places c.sequent)) (formula_at (contents store.new) c.sequent.conclusion)) }
     ensures stay { OthersStay store.old store.new }
 {
-    let entries = read_input(heap, store, Format::Proof, input)?;
-    Ok(derive(store, lines, &entries)?)
+    let count = read_input(store, entries, Format::Proof, input)?;
+    Ok(derive(store, lines, &entries[..count])?)
 }

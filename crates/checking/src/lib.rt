@@ -1,10 +1,8 @@
 // The checking of a proof file.
 //
-//   check::check           what a proof file shows, or its first fault
-//   answer::Unanswered     why there is no such answer
-//   theorems               what holds of every input
+//   check::check   what a proof file shows, or its first fault
+//   theorems       what holds of every proof file
 #![tactic(auto)]
 
-pub mod answer;
 pub mod check;
 pub mod theorems;

@@ -9,6 +9,7 @@ use Rattle.fitch.specs.declared.mode.Mode.{Mode}
 use Rattle.fitch.specs.declared.mode.Mode.TheVariants.{Constructive}
 use Rattle.fitch.specs.declared.refusal.Refusal.{Refusal}
 use Rattle.ledger.specs.Sequents.{SequentOf}
+use Rattle.ledger.specs.declared.line.Line.{Line}
 use Rattle.entries.specs.Entries.{Said}
 use Rattle.answers.specs.declared.checked.Checked.{Checked}
 use Rattle.answers.specs.declared.fault.Fault.{Fault}
@@ -55,3 +56,7 @@ Concluded mode fs h records (Err fault) = OfDerivation (λ n e. (n ≡ records) 
 abbrev pub Derives : List Formula → ℕ → List (Said ℕ) → History → Result Checked Fault → Type 0
 Derives fs slice xs h (Ok c) = RunsAll fs slice xs h None × Concluded (mode_of xs) fs h (length xs) (Ok c)
 Derives fs slice xs h (Err fault) = OfDerivation (λ n e. RunsAll fs slice xs h (Some (n, e)) ⊎ (RunsAll fs slice xs h None × (n ≡ length xs) × Refused (sequent_checks h) e)) fault
+
+-- over a slice of line records: what the records show, or their first fault
+abbrev pub DerivesOn : List Formula → List Line → List Line → List (Said ℕ) → Result Checked Fault → Type 0
+DerivesOn fs before after xs r = (h : History) × Derives fs (length before) xs h r

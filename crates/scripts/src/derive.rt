@@ -8,7 +8,7 @@ ghost use Rattle.soundness.specs.Soundness.{Entails};
 ghost use Rattle.entries.specs.Entries.{stored};
 ghost use Rattle.fitch.specs.History.{History};
 ghost use Rattle.derivations.specs.Finished.{mode_by, Finished, formulas_by};
-ghost use Rattle.scripts.specs.Proofs.{acts, mode_of, Concluded, Derives};
+ghost use Rattle.scripts.specs.Proofs.{acts, mode_of, Concluded, DerivesOn};
 
 use crate::run::acts::act_all;
 use crate::run::premises::gather;
@@ -70,7 +70,7 @@ fn conclude(derivation: &Sealed, records: usize) -> Result<Checked, Fault>
 
 // Writes a derivation by the records of a proof file, numbered from 1, over the store of their formulas: what it shows, or the first fault.
 pub fn derive(store: &Store, lines: &mut [Line], entries: &[Entry<usize>]) -> Result<Checked, Fault>
-    ensures exact { (h : History) × Derives (contents store.now) (length lines.old) (map stored entries.now) h result }
+    ensures exact { DerivesOn (contents store.now) lines.old lines.new (map stored entries.now) result }
     ensures entails { IfOk result (λ c. Entails c.sequent.mode (map (formula_at (contents store.now)) (premise_places c.sequent)) (formula_at (contents store.now) c.sequent.conclusion)) }
 {
     let (front, back) = entries.split_at(count_front(entries));

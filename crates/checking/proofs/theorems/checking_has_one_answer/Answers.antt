@@ -1,5 +1,5 @@
-use Rattle.checking.proofs.Answers.{one_answer}
+use Rattle.checking.proofs.Settling.{one_checking}
 use Rattle.checking.proofs.theorems.checking_has_one_answer.Goals as goal
 
 pub returns : goal.returns
-returns c = one_answer
+returns c = one_checking
