@@ -1,14 +1,9 @@
 -- A proof file has no two answers.
-use Rattle.std.proofs.Common.{◌≡◌, ℕ, List, length, Some, None, Option, Ok, Err, Result, refl, sym, ap, ◌∙◌, subst₂, arith}
-use Rattle.grammar.specs.Formula.{Formula}
-use Rattle.entries.specs.Entries.{Said}
-use Rattle.entries.specs.declared.entry.Entry.{Entry}
-use Rattle.entries.specs.declared.turn.Format.TheVariants.{Proof}
+use Rattle.std.proofs.Common.{length, Some, None, Ok, Err, Result, refl, sym, ap, ◌∙◌, subst₂}
 use Rattle.answers.specs.declared.checked.Checked.{Checked}
 use Rattle.answers.specs.declared.fault.Fault.{Fault}
 use Rattle.answers.specs.declared.unanswered.Unanswered.TheVariants.{Faulty}
-use Rattle.readings.specs.Answers.{NoRoom, SaysInto}
-use Rattle.readings.proofs.Settling.{says_once}
+use Rattle.readings.proofs.Settling.{says_once, room_or_not, fault_or_none, same_fault}
 use Rattle.scripts.specs.Proofs.{DerivesOn}
 use Rattle.scripts.specs.Settled.{SameAnswer}
 use Rattle.scripts.proofs.Showing.{one_derivation}
@@ -21,29 +16,17 @@ same_answered (Ok c) (Err e) same = same
 same_answered (Err e) (Ok d) same = same
 same_answered (Err e) (Err d) same = ap (λ x. Faulty x) same
 
-fault_or : Fault → Option Fault → Fault
-fault_or d None = d
-fault_or d (Some fault) = fault
-
-none_or_some : {fault : Fault} → ◌≡◌ {A = Option Fault} (Some fault) None → ⊥
-none_or_some e = absurd (cc)
-
--- an input has room, or it has none
-pub room_or_not : {cap : ℕ} {s : List ℕ} {fs gs hs : List Formula} {es es_a es_b : List (Entry ℕ)} {xs : List (Said ℕ)} {e : Option Fault} → NoRoom s fs gs es es_a → SaysInto cap Proof s fs hs es es_b xs e → ⊥
-room_or_not none some = omega (arith, some.room none.short, none.many)
-
 pub one_checking : OneAnswer
-unfolding fault_or
 one_checking n s fs gs es es_a ls ls_a a once (Checks.no_room none p) hs es_b ls_b b (Checks.no_room also q) = (refl, none.formulas ∙ sym also.formulas)
 one_checking n s fs gs es es_a ls ls_a a once (Checks.no_room none p) hs es_b ls_b b (Checks.not_read xs fault says q) = absurd (room_or_not none says)
 one_checking n s fs gs es es_a ls ls_a a once (Checks.no_room none p) hs es_b ls_b b (Checks.read xs r says q) = absurd (room_or_not none says)
 one_checking n s fs gs es es_a ls ls_a a once (Checks.not_read xs fault says p) hs es_b ls_b b (Checks.no_room none q) = absurd (room_or_not none says)
 one_checking n s fs gs es es_a ls ls_a a once (Checks.not_read xs fault says p) hs es_b ls_b b (Checks.not_read ys other also q) =
     let same = says.only hs ys (Some other) also.says in
-    (ap (λ o. Faulty (fault_or fault o)) same.2, same.0)
-one_checking n s fs gs es es_a ls ls_a a once (Checks.not_read xs fault says p) hs es_b ls_b b (Checks.read ys r also q) = absurd (none_or_some (says.only hs ys None also.says).2)
+    (ap (λ x. Faulty x) (same_fault same.2), same.0)
+one_checking n s fs gs es es_a ls ls_a a once (Checks.not_read xs fault says p) hs es_b ls_b b (Checks.read ys r also q) = absurd (fault_or_none (says.only hs ys None also.says).2)
 one_checking n s fs gs es es_a ls ls_a a once (Checks.read xs r says p) hs es_b ls_b b (Checks.no_room none q) = absurd (room_or_not none says)
-one_checking n s fs gs es es_a ls ls_a a once (Checks.read xs r says p) hs es_b ls_b b (Checks.not_read ys fault also q) = absurd (none_or_some (sym (says.only hs ys (Some fault) also.says).2))
+one_checking n s fs gs es es_a ls ls_a a once (Checks.read xs r says p) hs es_b ls_b b (Checks.not_read ys fault also q) = absurd (fault_or_none (sym (says.only hs ys (Some fault) also.says).2))
 one_checking n s fs gs es es_a ls ls_a a once (Checks.read xs r says p) hs es_b ls_b b (Checks.read ys t also q) =
     let same = says.only hs ys None also.says in
     let there : DerivesOn gs ls ls_b xs t = subst₂ (λ ks zs. DerivesOn ks ls ls_b zs t) (sym same.0) (sym same.1) q in

@@ -15,6 +15,9 @@ use Rattle.answers.specs.declared.fault.Fault.{Fault}
 use Rattle.answers.specs.declared.fault.Fault.TheVariants.{At}
 use Rattle.answers.specs.declared.fault.Reason.{Reason}
 use Rattle.readings.specs.Reading.{text_of, placed, EntersText, after_form, ByForm, Reads, InputSays}
+use Rattle.std.specs.Option.{unwrap_or}
+use Rattle.entries.specs.declared.entry.Entry.{Entry}
+use Rattle.readings.specs.Answers.{NoRoom, SaysInto}
 use Rattle.readings.specs.Settled.{SameReading, OneReading}
 
 -- two outcomes are the same
@@ -98,3 +101,14 @@ reads_once {cap} {format} {turn} once (Reads.next {p = p} gs x later here rest) 
 pub says_once : {cap : ℕ} {format : Format} {s : List ℕ} {fs gs : List Formula} {xs : List (Said ℕ)} {a : Option Fault} → Once fs → InputSays cap format s fs gs xs a → Once gs
 says_once once (InputSays.too_long p) = once
 says_once once (InputSays.read p reading) = reads_once once reading
+
+-- an input has room among the entries, or it has none
+pub room_or_not : {cap : ℕ} {format : Format} {s : List ℕ} {fs gs hs : List Formula} {es es_a es_b : List (Entry ℕ)} {xs : List (Said ℕ)} {e : Option Fault} → NoRoom s fs gs es es_a → SaysInto cap format s fs hs es es_b xs e → ⊥
+room_or_not none some = omega (arith, some.room none.short, none.many)
+
+-- it has a fault or none
+pub fault_or_none : {fault : Fault} → ◌≡◌ {A = Option Fault} (Some fault) None → ⊥
+fault_or_none e = absurd (cc)
+
+pub same_fault : {a b : Fault} → ◌≡◌ {A = Option Fault} (Some a) (Some b) → a ≡ b
+same_fault {a} e = ap (λ o. unwrap_or o a) e

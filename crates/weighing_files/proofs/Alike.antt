@@ -1,5 +1,5 @@
 -- Sequents that are alike in what is told weigh alike.
-use Rattle.std.proofs.Common.{◌≡◌, ℕ, ◌<◌, List, map, length, Ok, Err, Result, ap, ◌∙◌, subst}
+use Rattle.std.proofs.Common.{◌≡◌, ℕ, ◌<◌, List, map, length, Ok, Err, Result, sym, ap, ◌∙◌, subst}
 use Rattle.grammar.specs.Contents.{formula_at}
 use Rattle.grammar.specs.Formula.{Formula}
 use Rattle.fitch.specs.declared.mode.Mode.{Mode}
@@ -8,25 +8,18 @@ use Rattle.heyting.specs.Values.{value, meet_all}
 use Rattle.ledger.specs.Sequents.{premise_places}
 use Rattle.ledger.specs.declared.sequent.Sequent.{Sequent}
 use Rattle.soundness.specs.Soundness.{Entails}
-use Rattle.entries.specs.Entries.{Said}
 use Rattle.verdicts.specs.Weighing.{AllBelow, Stored, Weighs, Confirms}
-use Rattle.answers.specs.declared.fault.Fault.{Fault}
 use Rattle.verdicts.specs.declared.verdict.Verdict.{Verdict}
-use Rattle.algebra_files.specs.Faults.{FileFault}
-use Rattle.algebra_files.specs.Files.{File}
-use Rattle.algebra_files.specs.Meant.{Means}
-use Rattle.algebra_files.specs.Outcomes.{Outcome, Verdicted, WeighedInFile}
-use Rattle.algebra_files.specs.declared.wrong.Unweighed.{Unweighed}
-use Rattle.algebra_files.specs.declared.wrong.Unweighed.TheVariants as weighing
-
--- a verdict, or a fault of the file, as weighing in the file answers it
-abbrev pub reached : Result Verdict Fault → Result Verdict Unweighed
-reached (Ok verdict) = Ok verdict
-reached (Err fault) = Err (weighing.At fault)
+use Rattle.answers.specs.declared.unanswered.Unanswered.{Unanswered}
+use Rattle.heyting.specs.declared.refusal.Refusal.{Refusal}
+use Rattle.algebra_files.specs.Outcomes.{Outcome, Verdicted, Stopped}
 
 module _ (s t : Sequent) (mode : s.mode ≡ t.mode) (premises : premise_places s ≡ premise_places t) (conclusion : s.conclusion ≡ t.conclusion) (fs : List Formula) where
   pub stored_alike : Stored fs s → Stored fs t
   stored_alike p = record { premises = subst (λ ps. AllBelow ps (length fs)) premises p.premises; conclusion = subst (λ k. k < length fs) conclusion p.conclusion }
+
+  stored_back : Stored fs t → Stored fs s
+  stored_back p = record { premises = subst (λ ps. AllBelow ps (length fs)) (sym premises) p.premises; conclusion = subst (λ k. k < length fs) (sym conclusion) p.conclusion }
 
   weighs_alike : (m : Meaning) (v : List ℕ) (verdict : Verdict) → Weighs m fs v s verdict → Weighs m fs v t verdict
   weighs_alike m v verdict p = record {
@@ -53,12 +46,14 @@ module _ (s t : Sequent) (mode : s.mode ≡ t.mode) (premises : premise_places s
     follows = follows_alike p.algebra verdict p.follows;
   }
 
-  outcome_alike :
-      (f : File) (first : ℕ) (before after : List ℕ) (r : Result Verdict Fault)
-      → Outcome (Means f) (FileFault first f) fs f.values s before after (reached r) → Outcome (Means f) (FileFault first f) fs f.values t before after (reached r)
-  outcome_alike f first before after (Ok verdict) p = verdicted_alike verdict p
-  outcome_alike f first before after (Err fault) p = p
+  stopped_alike :
+      {M : Meaning → Type 0} {F : ℕ → Refusal → Type 0} {buffer : List ℕ} (why : Unanswered) → Stopped M F fs s buffer why → Stopped M F fs t buffer why
+  stopped_alike why (Stopped.unstored m meant never) = Stopped.unstored m meant (λ p. never (stored_back p))
+  stopped_alike why (Stopped.short m meant p less) = Stopped.short m meant (stored_alike p) less
+  stopped_alike why (Stopped.faulty n refusal fault late) = Stopped.faulty n refusal fault (λ letter is. (stored_alike (late letter is).0, (late letter is).1))
 
-  pub weighed_alike :
-      (first : ℕ) (xs : List (Said ℕ)) (before after : List ℕ) (r : Result Verdict Fault) → WeighedInFile first xs fs s before after (reached r) → WeighedInFile first xs fs t before after (reached r)
-  weighed_alike first xs before after r p = record { file = λ f is. outcome_alike f first before after r (p.file f is); none = p.none }
+  pub outcome_alike :
+      (M : Meaning → Type 0) (F : ℕ → Refusal → Type 0) (vs : List (ℕ × ℕ)) (before after : List ℕ) (r : Result Verdict Unanswered)
+      → Outcome M F fs vs s before after r → Outcome M F fs vs t before after r
+  outcome_alike M F vs before after (Ok verdict) p = verdicted_alike verdict p
+  outcome_alike M F vs before after (Err why) p = (stopped_alike why p.0, p.1)

@@ -1,3 +1,4 @@
-pub mod Answering
+pub mod Tails
 pub mod Alike
 pub mod Settling
+pub mod Putting

@@ -1,11 +1,9 @@
 // The weighing of a proof file in the algebra of an algebra file, both in one input.
 //
-//   answer::Unanswered       why there is no verdict
-//   weigh::weigh_input       the verdict, or the first fault
-//   theorems                 what holds of every input
+//   weigh::weigh_input   the verdict, or the first fault
+//   theorems             what holds of every input
 #![tactic(auto)]
 
-pub mod answer;
 mod parts;
 pub mod theorems;
 pub mod weigh;

@@ -1,36 +1,35 @@
-use Rattle.std.proofs.Common.{◌≡◌, map, length, Ok, Err, ap, ◌∙◌, arith}
+use Rattle.std.proofs.Common.{◌≡◌, Err, arith}
 use Rattle.std.proofs.lemmas.Grind.{common_steps}
 use Rattle.formulas.specs.Stores.{capacity, contents}
-use Rattle.entries.specs.declared.turn.Format.TheVariants.{Weighing}
-use Rattle.entries.specs.Entries.{stored}
-use Rattle.weighing_files.specs.Weighing.{unweighed, proof_part, algebra_part}
-use Rattle.weighing_files.proofs.Answering.{says_read, both, holding, refused}
+use Rattle.answers.specs.declared.unanswered.Unanswered.TheVariants.{Faulty}
+use Rattle.weighing_files.proofs.Putting.{not_read, not_derived, derived, confirmed}
 use Rattle.weighing_files.proofs.weigh.weigh_input.Goals as goal
 
-pub returns-in_err-weigh_in_file-clause-exact : goal.returns-in_err-weigh_in_file-clause-exact
-returns-in_err-weigh_in_file-clause-exact c =
-    let why = c.in_err-weigh_in_file.field-0.0 in
-    let told : c.from_residual-in_err-weigh_in_file.result ≡ Err (unweighed why) = grind (arith, common_steps) in
-    let fs = contents c.read_input.new.store in
-    let says = says_read (capacity c.args.store.now) Weighing c.args.input.now (contents c.args.store.now) fs c.in_ok-entries.entries c.in_ok-entries.ensures.read in
-    let entries = c.in_ok-entries.entries.items in
-    rw told
-    (refused (length c.args.lines.now) fs c.args.values.now c.weigh_in_file.new.values entries c.split.result.0.now c.split.result.1.now
-    (c.split.ensures.proof ∙ ap (λ es. proof_part (map stored es)) c.deref.ensures.value)
-    (c.split.ensures.algebra ∙ ap (λ es. algebra_part (map stored es)) c.deref.ensures.value)
-    c.in_ok-checked.checked c.in_ok-checked.ensures.exact
-    (capacity c.args.store.now) c.args.input.now (contents c.args.store.now) why says c.in_err-weigh_in_file.ensures.exact)
+pub returns-in_err-count-clause-exact : goal.returns-in_err-count-clause-exact
+returns-in_err-count-clause-exact c =
+    let store = c.args.store.now in
+    let why = c.in_err-count.field-0.0 in
+    let refused : c.from_residual.result ≡ Err why = grind (arith, common_steps) in
+    rw refused
+    (not_read (capacity store) c.args.input.now (contents store) (contents c.read_input.new.store) c.args.entries.now c.read_input.new.entries store.once c.args.lines.now c.args.values.now why c.in_err-count.ensures.read)
+
+pub returns-in_err-checked-clause-exact : goal.returns-in_err-checked-clause-exact
+returns-in_err-checked-clause-exact c =
+    let store = c.args.store.now in
+    let fault = c.in_err-checked.field-0.0 in
+    let refused : c.from_residual-in_err-checked.result ≡ Err (Faulty fault) = grind (arith, common_steps) in
+    rw refused
+    (not_derived (capacity store) c.args.input.now (contents store) (contents c.read_input.new.store) c.args.entries.now c.read_input.new.entries store.once c.in_ok-count.count c.in_ok-count.ensures.read c.split.result.0.now c.split.result.1.now
+    c.args.lines.now c.derive.new.lines c.split.ensures.proof c.split.ensures.algebra c.args.values.now fault c.in_err-checked.ensures.exact)
 
 pub returns-clause-exact : goal.returns-clause-exact
 returns-clause-exact c =
-    let fs = contents c.read_input.new.store in
-    let entries = c.in_ok-entries.entries.items in
-    let says = says_read (capacity c.args.store.now) Weighing c.args.input.now (contents c.args.store.now) fs c.in_ok-entries.entries c.in_ok-entries.ensures.read in
-    let proof_is = c.split.ensures.proof ∙ ap (λ es. proof_part (map stored es)) c.deref.ensures.value in
-    let algebra_is = c.split.ensures.algebra ∙ ap (λ es. algebra_part (map stored es)) c.deref.ensures.value in
-    let checked = c.in_ok-checked.checked in (
-      map stored entries,
-      says,
-      both (length c.args.lines.now) fs c.args.values.now c.weigh_in_file.new.values entries c.split.result.0.now c.split.result.1.now proof_is algebra_is checked c.in_ok-checked.ensures.exact (Ok c.in_ok-weigh_in_file.field-0) c.in_ok-weigh_in_file.ensures.exact,
-      holding (length c.args.lines.now) fs c.args.values.now c.weigh_in_file.new.values entries c.split.result.0.now c.split.result.1.now proof_is algebra_is checked c.in_ok-checked.ensures.exact c.in_ok-weigh_in_file.field-0 c.in_ok-checked.ensures.entails c.in_ok-weigh_in_file.ensures.confirmed,
-    )
+    let store = c.args.store.now in
+    derived (capacity store) c.args.input.now (contents store) (contents c.read_input.new.store) c.args.entries.now c.read_input.new.entries store.once c.in_ok-count.count c.in_ok-count.ensures.read c.split.result.0.now c.split.result.1.now
+    c.args.lines.now c.derive.new.lines c.split.ensures.proof c.split.ensures.algebra c.args.values.now c.weigh_in_file.new.values c.in_ok-checked.checked c.in_ok-checked.ensures.exact c.weigh_in_file.result c.weigh_in_file.ensures
+
+pub returns-clause-confirmed : goal.returns-clause-confirmed
+returns-clause-confirmed c =
+    let store = c.args.store.now in
+    confirmed (capacity store) c.args.input.now (contents store) (contents c.read_input.new.store) c.args.entries.now c.read_input.new.entries store.once c.in_ok-count.count c.in_ok-count.ensures.read c.split.result.0.now c.split.result.1.now
+    c.args.lines.now c.derive.new.lines c.split.ensures.proof c.split.ensures.algebra c.args.values.now c.weigh_in_file.new.values c.in_ok-checked.checked c.in_ok-checked.ensures.exact c.weigh_in_file.result c.weigh_in_file.ensures c.in_ok-checked.ensures.entails
