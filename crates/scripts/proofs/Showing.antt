@@ -49,7 +49,7 @@ one_places fs once (p ∷ ps) (q ∷ qs) within also e =
     (one_place fs once p q (within 0 (omega arith)) (also 0 (omega arith)) (ap (first_or (formula_at fs p)) e))
     (one_places fs once ps qs (λ k lt. within (suc k) (omega (arith, lt))) (λ k lt. also (suc k) (omega (arith, lt))) (ap rest_of e))
 
-within_places : {mode : Mode} {fs : List Formula} {h : History} {s : Sequent} → SequentOf mode fs h s → (k : ℕ) → k < length (premise_places s) → get_or (premise_places s) k 0 < length fs
+pub within_places : {mode : Mode} {fs : List Formula} {h : History} {s : Sequent} → SequentOf mode fs h s → (k : ℕ) → k < length (premise_places s) → get_or (premise_places s) k 0 < length fs
 within_places {fs = fs} {s = s} q k lt =
     let few : k < s.count = omega (arith, lt, length-take s.count s.places) in
     subst (λ p. p < length fs) (sym (get_or-take s.count s.places k 0 few)) (q.premises_in k few)

@@ -1,0 +1,11 @@
+// The line that a program prints for an input: what the input shows, the verdict, or the first fault.
+//
+//   check::check_line      the line for a proof file
+//   weigh::weigh_line      the line for a proof file and an algebra file
+//   unprinted::Unprinted   which of the lent slices is too short for it
+#![tactic(auto)]
+
+pub mod check;
+mod print;
+pub mod unprinted;
+pub mod weigh;
