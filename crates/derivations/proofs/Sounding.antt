@@ -30,14 +30,14 @@ module _ {mode : Mode} {fs : List Formula} {es : List Line} {n : ℕ} {h : Histo
     pub derives_entails : (A : Formula) → Derives mode fs es n p ts h → Concludes h A → Entails mode (premises h) A
     derives_entails A x k = conclusions_follow_lem mode h A x.written k
 
-pub derived_sound : (o : Open) (h : History) → Derived o h → Sound o.sheet.mode h
+pub derived_sound : (o : Open) (h : History) → Derived o h → Sound o.mode h
 derived_sound o h x = derives_sound x
 
 -- of a sequent that every history of the derivation has
-pub sequent_entails : (d : Sealed) (s : Sequent) → ((h : History) → Finished d h → SequentOf d.derivation.sheet.mode (formulas_by d) h s)
+pub sequent_entails : (d : Sealed) (s : Sequent) → ((h : History) → Finished d h → SequentOf d.mode (formulas_by d) h s)
     → Entails s.mode (map (formula_at (formulas_by d)) (premise_places s)) (formula_at (formulas_by d) s.conclusion)
 sequent_entails d s shows m l v members =
-    settled (ℕ_discrete _ _) d.derivation.recorded (λ r.
+    settled (ℕ_discrete _ _) d.recorded (λ r.
     let q = shows r.0 r.1 in
     subst (λ mode. Entails mode (map (formula_at (formulas_by d)) (premise_places s)) (formula_at (formulas_by d) s.conclusion)) (sym q.mode_is)
-    (subst (λ As. Entails d.derivation.sheet.mode As (formula_at (formulas_by d) s.conclusion)) (sym q.premises_are) (conclusions_follow_lem d.derivation.sheet.mode r.0 _ r.1.written q.concludes)) m l v members)
+    (subst (λ As. Entails d.mode As (formula_at (formulas_by d) s.conclusion)) (sym q.premises_are) (conclusions_follow_lem d.mode r.0 _ r.1.written q.concludes)) m l v members)

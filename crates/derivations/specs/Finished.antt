@@ -3,15 +3,19 @@ use Rattle.std.specs.Prelude.{List}
 use Rattle.grammar.specs.Formula.{Formula}
 use Rattle.fitch.specs.History.{History}
 use Rattle.fitch.specs.declared.mode.Mode.{Mode}
-use Rattle.derivations.specs.Derived.{mode_in, Derived}
-use Rattle.derivations.specs.Sheets.{formulas_of}
+use Rattle.ledger.specs.Recorded.{Derives}
+use Rattle.boxes.specs.Stack.{stack}
+use Rattle.derivations.specs.Sheets.{Sheet, formulas_of}
 use Rattle.derivations.specs.declared.sealed.Sealed.{Sealed}
 
-abbrev pub formulas_by : Sealed → List Formula
-formulas_by d = formulas_of d.derivation.sheet
-
 abbrev pub mode_by : Sealed → Mode
-mode_by d = mode_in d.derivation
+mode_by d = d.mode
+
+abbrev pub sheet_by : Sealed → Sheet
+sheet_by d = record { store = d.store; lines = d.lines; count = d.count; mode = d.mode }
+
+abbrev pub formulas_by : Sealed → List Formula
+formulas_by d = formulas_of (sheet_by d)
 
 abbrev pub Finished : Sealed → History → Type 0
-Finished d h = Derived d.derivation h
+Finished d h = Derives d.mode (formulas_by d) d.lines.now d.count d.premises (stack d.boxes) h

@@ -1,15 +1,26 @@
 -- The formulas and the line records of a derivation.
-use Rattle.std.specs.Prelude.{◌≡◌, ℕ, ◌+◌, ◌-◌, ◌<◌, ◌≤◌, List, length, drop, Result, MatchResult, slice_index_or, slice_set}
+use Rattle.std.specs.Prelude.{◌≡◌, ℕ, ◌<◌, ◌≤◌, List, length, drop, Result, MatchResult}
+use Rattle.std.specs.Borrow.{Bor, MutBor}
 use Rattle.formulas.specs.Stores.{contents}
+use Rattle.formulas.specs.declared.store.Store.{Store}
 use Rattle.grammar.specs.Contents.{formula_at}
 use Rattle.grammar.specs.Formula.{Formula}
 use Rattle.fitch.specs.Checks.{Check}
 use Rattle.fitch.specs.Limits.{most_lines}
+use Rattle.fitch.specs.declared.mode.Mode.{Mode}
 use Rattle.fitch.specs.declared.refusal.Refusal.{Refusal}
-use Rattle.ledger.specs.Recorded.{no_line, ended_at}
 use Rattle.ledger.specs.declared.line.Line.{Line}
-use Rattle.ledger.specs.declared.open_box.OpenBox.{OpenBox}
-use Rattle.derivations.specs.declared.sheet.Sheet.{Sheet}
+
+-- what a derivation is written on: the store and the slice of line records that are lent, how many lines are written, and the mode
+pub record Sheet : Type 0 where
+  pub store : Bor Store
+  pub lines : MutBor (List Line)
+  pub count : ℕ
+  pub mode : Mode
+
+-- over what is lent, with so many lines
+abbrev pub lent_sheet : Bor Store → MutBor (List Line) → Mode → ℕ → Sheet
+lent_sheet store lines mode n = record { store = store; lines = lines; count = n; mode = mode }
 
 abbrev pub formulas_of : Sheet → List Formula
 formulas_of s = contents s.store.now
@@ -33,20 +44,3 @@ pub record Leaves (s after : Sheet) : Type 0 where
   pub slice : after.lines.ghost_name ≡ s.lines.ghost_name
   pub long : length after.lines.now ≡ length s.lines.now
   pub rest : drop after.count after.lines.now ≡ drop after.count s.lines.now
-
--- the sheet with other records in the slice that it holds, and another number of lines
-pub record Becomes (s : Sheet) (es : List Line) (n : ℕ) (after : Sheet) : Type 0 where
-  pub store : after.store ≡ s.store
-  pub mode : after.mode ≡ s.mode
-  pub slice : after.lines.ghost_name ≡ s.lines.ghost_name
-  pub count : after.count ≡ n
-  pub lines : after.lines.now ≡ es
-
--- a line is written at the next number
-abbrev pub Writes : Sheet → Line → Sheet → Type 0
-Writes s line after = Becomes s (slice_set s.lines.now s.count line) (s.count + 1) after
-
--- the end of a box is put into its first line's record
-abbrev pub EndsBox : Sheet → OpenBox → Sheet → Type 0
-EndsBox s closed after =
-    Becomes s (slice_set s.lines.now (closed.first - 1) (ended_at (slice_index_or s.lines.now (closed.first - 1) no_line) closed.end)) s.count after

@@ -1,20 +1,28 @@
 // A derivation that gathers its premises.
-ghost use Rattle.std.specs.Prelude.{◌≤◌};
+ghost use Rattle.std.specs.Prelude.{◌≤◌, length};
+ghost use Rattle.formulas.specs.Stores.{contents};
 ghost use Rattle.fitch.specs.History.{History};
-ghost use Rattle.fitch.specs.Limits.{most_premises};
+ghost use Rattle.fitch.specs.Limits.{most_premises, most_lines};
 ghost use Rattle.ledger.specs.Recorded.{Gathers};
-ghost use Rattle.derivations.specs.Sheets.{formulas_of};
 
-use crate::sheet::Sheet;
+use fitch::mode::Mode;
+use formulas::store::Store;
+use ledger::line::Line;
 
 pub mod look;
 pub mod premise;
 pub mod start;
 
 // The records are those of some history of accepted calls.
+// The fields are public, and guarded by the ghost fields: who puts a `Gathering` together has to prove that.
 #[derive(Drop)]
 pub struct Gathering<'s, 'l> {
-    sheet: Sheet<'s, 'l>,
-    ghost few: { sheet.count ≤ most_premises },
-    ghost recorded: { ∥ ((h : History) × Gathers sheet.mode (formulas_of sheet) sheet.lines.now sheet.count h) ∥₁ },
+    pub store: &'s Store,
+    pub lines: &'l mut [Line],
+    pub count: usize,
+    pub mode: Mode,
+    ghost small: { count ≤ most_lines },
+    ghost fits: { count ≤ length lines.now },
+    ghost few: { count ≤ most_premises },
+    ghost recorded: { ∥ ((h : History) × Gathers mode (contents store.now) lines.now count h) ∥₁ },
 }

@@ -1,13 +1,15 @@
 // A derivation under way.
-ghost use Rattle.std.specs.Prelude.{◌≤◌};
+ghost use Rattle.std.specs.Prelude.{◌≤◌, length};
+ghost use Rattle.formulas.specs.Stores.{contents};
 ghost use Rattle.fitch.specs.History.{History};
-ghost use Rattle.fitch.specs.Limits.{most_premises};
+ghost use Rattle.fitch.specs.Limits.{most_premises, most_lines};
 ghost use Rattle.ledger.specs.Recorded.{Derives};
 ghost use Rattle.boxes.specs.Stack.{stack};
-ghost use Rattle.derivations.specs.Sheets.{formulas_of};
 
-use crate::sheet::Sheet;
 use boxes::boxes::Boxes;
+use fitch::mode::Mode;
+use formulas::store::Store;
+use ledger::line::Line;
 
 mod check;
 pub mod look;
@@ -16,12 +18,18 @@ pub mod seal;
 pub mod step;
 
 // The records are those of some history of accepted calls, of which `premises` were premises.
+// The fields are public, and guarded by the ghost fields: who puts an `Open` together has to prove that.
 // That each such history is sound is no ghost field: it stands on the calls, where a caller reads it, with what each leaves and refuses.
 #[derive(Drop)]
 pub struct Open<'s, 'l> {
-    pub(crate) sheet: Sheet<'s, 'l>,
-    pub(crate) premises: usize,
-    pub(crate) boxes: Boxes,
+    pub store: &'s Store,
+    pub lines: &'l mut [Line],
+    pub count: usize,
+    pub mode: Mode,
+    pub premises: usize,
+    pub boxes: Boxes,
+    ghost small: { count ≤ most_lines },
+    ghost fits: { count ≤ length lines.now },
     ghost few: { premises ≤ most_premises },
-    ghost recorded: { ∥ ((h : History) × Derives sheet.mode (formulas_of sheet) sheet.lines.now sheet.count premises (stack boxes) h) ∥₁ },
+    ghost recorded: { ∥ ((h : History) × Derives mode (contents store.now) lines.now count premises (stack boxes) h) ∥₁ },
 }

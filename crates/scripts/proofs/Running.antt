@@ -4,10 +4,9 @@ use Rattle.std.proofs.lemmas.List.{drop-drop, drop-map, drop_more, drop_all}
 use Rattle.fitch.specs.Checks.{Accepted, Refused}
 use Rattle.fitch.specs.History.{History}
 use Rattle.fitch.specs.declared.refusal.Refusal.{Refusal}
-use Rattle.derivations.specs.Derived.{Leaves as LeavesOpen}
-use Rattle.derivations.specs.Sheets.{formulas_of, Leaves}
+use Rattle.derivations.specs.Derived.{sheet_in, Leaves as LeavesOpen}
+use Rattle.derivations.specs.Sheets.{Sheet, formulas_of, Leaves}
 use Rattle.derivations.specs.declared.open.Open.{Open}
-use Rattle.derivations.specs.declared.sheet.Sheet.{Sheet}
 use Rattle.entries.specs.Entries.{Said, stored}
 use Rattle.answers.specs.declared.fault.Fault.{Fault}
 use Rattle.answers.specs.declared.fault.Fault.TheVariants.{TooLong, At}
@@ -21,7 +20,7 @@ use Rattle.scripts.specs.Runs.{Steps, premise_steps, act_steps, OfDerivation, Ru
 pub nothing_left : (s : Sheet) → Leaves s s
 nothing_left s = record { more = omega arith; store = refl; mode = refl; slice = refl; long = refl; rest = refl }
 
-drop_further : {A : Type 0} (j k : ℕ) (xs ys : List A) → j ≤ k → drop j xs ≡ drop j ys → drop k xs ≡ drop k ys
+pub drop_further : {A : Type 0} (j k : ℕ) (xs ys : List A) → j ≤ k → drop j xs ≡ drop j ys → drop k xs ≡ drop k ys
 drop_further {A = A} j k xs ys le e = sym (split xs) ∙ ap (drop (k - j)) e ∙ split ys
   where
     split : (zs : List A) → drop (k - j) (drop j zs) ≡ drop k zs
@@ -38,7 +37,7 @@ leave_on {s} {t} {u} first second = record {
 }
 
 pub nothing_left_open : (o : Open) → LeavesOpen o o
-nothing_left_open o = record { premises = refl; sheet = nothing_left o.sheet }
+nothing_left_open o = record { premises = refl; sheet = nothing_left (sheet_in o) }
 
 pub leave_on_open : {o p q : Open} → LeavesOpen o p → LeavesOpen p q → LeavesOpen o q
 leave_on_open first second = record { premises = second.premises ∙ first.premises; sheet = leave_on first.sheet second.sheet }

@@ -8,6 +8,7 @@ use Rattle.fitch.specs.History.{History, begin, count}
 use Rattle.fitch.specs.declared.mode.Mode.{Mode}
 use Rattle.fitch.specs.declared.mode.Mode.TheVariants.{Constructive}
 use Rattle.fitch.specs.declared.refusal.Refusal.{Refusal}
+use Rattle.ledger.specs.Recorded.{Recorded}
 use Rattle.ledger.specs.Sequents.{SequentOf}
 use Rattle.ledger.specs.declared.line.Line.{Line}
 use Rattle.entries.specs.Entries.{Said}
@@ -57,6 +58,12 @@ abbrev pub Derives : List Formula → ℕ → List (Said ℕ) → History → Re
 Derives fs slice xs h (Ok c) = RunsAll fs slice xs h None × Concluded (mode_of xs) fs h (length xs) (Ok c)
 Derives fs slice xs h (Err fault) = OfDerivation (λ n e. RunsAll fs slice xs h (Some (n, e)) ⊎ (RunsAll fs slice xs h None × (n ≡ length xs) × Refused (sequent_checks h) e)) fault
 
--- over a slice of line records: what the records show, or their first fault
+-- the line records after a derivation whose history is h: its lines first, and the others as they were
+pub record LinesOf (fs : List Formula) (before after : List Line) (h : History) : Type 0 where
+  pub long : length after ≡ length before
+  pub recorded : Recorded fs after (count h) h
+  pub rest : drop (count h) after ≡ drop (count h) before
+
+-- over a slice of line records, which are those before and then those after: what the records show, or their first fault, and the lines of the history that they reach
 abbrev pub DerivesOn : List Formula → List Line → List Line → List (Said ℕ) → Result Checked Fault → Type 0
-DerivesOn fs before after xs r = (h : History) × Derives fs (length before) xs h r
+DerivesOn fs before after xs r = (h : History) × Derives fs (length before) xs h r × LinesOf fs before after h

@@ -7,7 +7,8 @@ use Rattle.fitch.specs.Checks.{Check, Accepted, Refused}
 use Rattle.fitch.specs.History.{History, premise, assume, step, close}
 use Rattle.fitch.specs.declared.mode.Mode.{Mode}
 use Rattle.fitch.specs.declared.refusal.Refusal.{Refusal}
-use Rattle.derivations.specs.Derived.{mode_in}
+use Rattle.derivations.specs.Derived.{mode_in, sheet_in}
+use Rattle.derivations.specs.Gathered.{sheet_of}
 use Rattle.derivations.specs.Sheets.{formulas_of}
 use Rattle.derivations.specs.declared.gathering.Gathering.{Gathering}
 use Rattle.derivations.specs.declared.open.Open.{Open}
@@ -51,10 +52,10 @@ act_steps mode fs slice = record { checks = act_checked mode fs slice; after = a
 
 -- the steps of a derivation that gathers premises, and of one that is open
 abbrev pub steps_of : Gathering → Steps
-steps_of g = premise_steps (formulas_of g.sheet) (length g.sheet.lines.now)
+steps_of g = premise_steps (formulas_of (sheet_of g)) (length g.lines.now)
 
 abbrev pub steps_in : Open → Steps
-steps_in o = act_steps (mode_in o) (formulas_of o.sheet) (length o.sheet.lines.now)
+steps_in o = act_steps (mode_in o) (formulas_of (sheet_in o)) (length o.lines.now)
 
 -- records from number n on, after h: the history that they reach, and the fault that stopped them, if one did, with its record's number
 pub data Runs (steps : Steps) : History → ℕ → List (Said ℕ) → History → Option (ℕ × Refusal) → Type 0 where

@@ -14,7 +14,9 @@ use crate::run::acts::act_all;
 use crate::run::premises::gather;
 use answers::checked::Checked;
 use answers::fault::{Fault, Reason};
+use boxes::boxes::Boxes;
 use derivations::gathering::Gathering;
+use derivations::open::Open;
 use derivations::sealed::Sealed;
 use entries::entry::Entry;
 use fitch::mode::Mode;
@@ -69,6 +71,7 @@ fn conclude(derivation: &Sealed, records: usize) -> Result<Checked, Fault>
 }
 
 // Writes a derivation by the records of a proof file, numbered from 1, over the store of their formulas: what it shows, or the first fault.
+// Each state is taken apart and the next put together here, as `open` and `seal` do: of a slice that a call hands on, its owner would know nothing in the end.
 pub fn derive(store: &Store, lines: &mut [Line], entries: &[Entry<usize>]) -> Result<Checked, Fault>
     ensures exact { DerivesOn (contents store.now) lines.old lines.new (map stored entries.now) result }
     ensures entails { IfOk result (λ c. Entails c.sequent.mode (map (formula_at (contents store.now)) (premise_places c.sequent)) (formula_at (contents store.now) c.sequent.conclusion)) }
@@ -76,7 +79,36 @@ pub fn derive(store: &Store, lines: &mut [Line], entries: &[Entry<usize>]) -> Re
     let (front, back) = entries.split_at(count_front(entries));
     let mut gathering = Gathering::new(store, lines, mode_of(entries));
     gather(&mut gathering, front, 1)?;
-    let mut derivation = gathering.open();
+    let Gathering {
+        store,
+        lines,
+        count,
+        mode,
+    } = gathering;
+    let mut derivation = Open {
+        store,
+        lines,
+        count,
+        mode,
+        premises: count,
+        boxes: Boxes::new(),
+    };
     act_all(&mut derivation, back, front.len() + 1)?;
-    conclude(&derivation.seal(), entries.len())
+    let Open {
+        store,
+        lines,
+        count,
+        mode,
+        premises,
+        boxes,
+    } = derivation;
+    let sealed = Sealed {
+        store,
+        lines,
+        count,
+        mode,
+        premises,
+        boxes,
+    };
+    conclude(&sealed, entries.len())
 }

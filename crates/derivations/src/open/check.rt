@@ -5,6 +5,8 @@ ghost use Rattle.fitch.specs.History.{History};
 ghost use Rattle.derivations.specs.Derived.{Derived, checks_of_step};
 
 use crate::open::Open;
+use crate::sheet::check::{check_room, check_stored};
+use crate::sheet::page::first_lines;
 use fitch::refusal::Refusal;
 use fitch::rule::Rule;
 use rules::fits::fits;
@@ -20,14 +22,14 @@ impl<'s, 'l> Open<'s, 'l> {
     ) -> Result<(), Refusal>
         ensures { (h : History) → Derived self.now h → MatchResult result (λ _. Accepted (checks_of_step self.now h formula rule citations.now)) (Refused (checks_of_step self.now h formula rule citations.now)) }
     {
-        self.sheet.stored(formula)?;
-        let cited = self.sheet.page().cited(rule, citations)?;
-        if !rule.serves(self.sheet.mode) {
+        check_stored(self.store, formula)?;
+        let cited = first_lines(self.store, self.lines, self.count).cited(rule, citations)?;
+        if !rule.serves(self.mode) {
             return Err(Refusal::NotOfMode);
         }
-        if !fits(self.sheet.store, formula, rule, &cited[..citations.len()]) {
+        if !fits(self.store, formula, rule, &cited[..citations.len()]) {
             return Err(Refusal::DoesNotFit);
         }
-        self.sheet.room()
+        check_room(self.count, self.lines.len())
     }
 }

@@ -17,6 +17,21 @@ impl<'s, 'l> Open<'s, 'l> {
         ensures entails { (h : History) (A : Formula) → Finished result h → Concludes h A → Entails (mode_by result) (premises h) A }
         ensures keeps { Seals self.entry result }
     {
-        Sealed { derivation: self }
+        let Open {
+            store,
+            lines,
+            count,
+            mode,
+            premises,
+            boxes,
+        } = self;
+        Sealed {
+            store,
+            lines,
+            count,
+            mode,
+            premises,
+            boxes,
+        }
     }
 }

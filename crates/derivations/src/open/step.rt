@@ -4,7 +4,7 @@ ghost use Rattle.fitch.specs.Checks.{Accepted, Refused};
 ghost use Rattle.fitch.specs.History.{History, count, step};
 ghost use Rattle.fitch.specs.Records.{padded as kept_citations};
 ghost use Rattle.soundness.specs.Soundness.{Sound};
-ghost use Rattle.derivations.specs.Derived.{mode_in, Derived, Leaves, checks_of_step};
+ghost use Rattle.derivations.specs.Derived.{mode_in, sheet_in, Derived, Leaves, checks_of_step};
 ghost use Rattle.derivations.specs.Sheets.{formula_of};
 
 use crate::open::Open;
@@ -29,20 +29,21 @@ impl<'s, 'l> Open<'s, 'l> {
         rule: Rule,
         citations: &[usize],
     ) -> Result<usize, Refusal>
-        ensures exact { (h : History) → Derived self.old h → MatchResult result (λ n. Accepted (checks_of_step self.old h formula rule citations.now) × (n ≡ suc (count h)) × Derived self.new (step (formula_of self.old.sheet formula) rule citations.now ∷ h)) (Refused (checks_of_step self.old h formula rule citations.now)) }
+        ensures exact { (h : History) → Derived self.old h → MatchResult result (λ n. Accepted (checks_of_step self.old h formula rule citations.now) × (n ≡ suc (count h)) × Derived self.new (step (formula_of (sheet_in self.old) formula) rule citations.now ∷ h)) (Refused (checks_of_step self.old h formula rule citations.now)) }
         ensures sound { (h : History) → Derived self.new h → Sound (mode_in self.new) h }
         ensures leaves { Leaves self.old self.new }
         ensures unchanged { OnErr result (self.new ≡ self.old) }
     {
         self.check(formula, rule, citations)?;
         let inside = self.boxes.innermost();
-        let number = self.sheet.write(Line {
+        self.lines[self.count] = Line {
             formula,
             reason: Reason::Step(rule, padded(citations)),
             inside,
             ..BLANK
-        });
-        self.boxes.extend(number);
-        Ok(number)
+        };
+        self.count += 1;
+        self.boxes.extend(self.count);
+        Ok(self.count)
     }
 }

@@ -1,31 +1,31 @@
 // The checks of every call that writes.
 ghost use Rattle.std.specs.Prelude.{◌<◌, length};
+ghost use Rattle.formulas.specs.Stores.{contents};
 ghost use Rattle.fitch.specs.Checks.{unless};
-ghost use Rattle.derivations.specs.Sheets.{formulas_of, HasRoom, Checked};
+ghost use Rattle.fitch.specs.Limits.{most_lines};
+ghost use Rattle.derivations.specs.Sheets.{Checked};
 
-use crate::sheet::Sheet;
 use fitch::refusal::Refusal;
+use formulas::store::Store;
 
 const MOST_LINES: usize = 1024;
 
-impl<'s, 'l> Sheet<'s, 'l> {
-    // Refuses a place that holds no formula.
-    pub(crate) fn stored(&self, place: usize) -> Result<(), Refusal>
-        ensures { Checked (unless Refusal.NotStored (place < length (formulas_of self.now))) result }
-    {
-        if place >= self.store.count() {
-            return Err(Refusal::NotStored);
-        }
-        Ok(())
+// Refuses a place that holds no formula.
+pub(crate) fn check_stored(store: &Store, place: usize) -> Result<(), Refusal>
+    ensures { Checked (unless Refusal.NotStored (place < length (contents store.now))) result }
+{
+    if place >= store.count() {
+        return Err(Refusal::NotStored);
     }
+    Ok(())
+}
 
-    // Refuses where no record is left for one more line.
-    pub(crate) fn room(&self) -> Result<(), Refusal>
-        ensures { Checked (unless Refusal.NoRecord (HasRoom self.now)) result }
-    {
-        if self.count >= MOST_LINES || self.count >= self.lines.len() {
-            return Err(Refusal::NoRecord);
-        }
-        Ok(())
+// Refuses where so many lines leave no record for one more, of so many.
+pub(crate) fn check_room(count: usize, records: usize) -> Result<(), Refusal>
+    ensures { Checked (unless Refusal.NoRecord ((count < most_lines) × (count < records))) result }
+{
+    if count >= MOST_LINES || count >= records {
+        return Err(Refusal::NoRecord);
     }
+    Ok(())
 }

@@ -2,7 +2,7 @@
 ghost use Rattle.std.specs.Prelude.{◌≡◌, ◌+◌, ◌<◌, ◌^◌, ◌∷◌, length, map, MatchResult, OnErr};
 ghost use Rattle.fitch.specs.Checks.{Accepted, Refused};
 ghost use Rattle.fitch.specs.History.{History, step as next_step};
-ghost use Rattle.derivations.specs.Derived.{Derived, Leaves, checks_of_step};
+ghost use Rattle.derivations.specs.Derived.{sheet_in, Derived, Leaves, checks_of_step};
 ghost use Rattle.derivations.specs.Sheets.{formula_of};
 ghost use Rattle.entries.specs.Entries.{cited, stored};
 ghost use Rattle.scripts.specs.Runs.{steps_in, Ran, RanOne};
@@ -21,7 +21,7 @@ fn step(
     rule: Rule,
     citations: Citations,
 ) -> Result<(), Refusal>
-    ensures ran { (h : History) → Derived derivation.old h → MatchResult result (λ _. Accepted (checks_of_step derivation.old h place rule (cited citations)) × Derived derivation.new (next_step (formula_of derivation.old.sheet place) rule (cited citations) ∷ h)) (Refused (checks_of_step derivation.old h place rule (cited citations))) }
+    ensures ran { (h : History) → Derived derivation.old h → MatchResult result (λ _. Accepted (checks_of_step derivation.old h place rule (cited citations)) × Derived derivation.new (next_step (formula_of (sheet_in derivation.old) place) rule (cited citations) ∷ h)) (Refused (checks_of_step derivation.old h place rule (cited citations))) }
     ensures leaves { Leaves derivation.old derivation.new }
     ensures unchanged { OnErr result (derivation.new ≡ derivation.old) }
 {

@@ -1,7 +1,7 @@
 // The records of premises.
 ghost use Rattle.std.specs.Prelude.{◌≡◌, ◌+◌, ◌<◌, ◌≤◌, ◌^◌, length, map};
 ghost use Rattle.fitch.specs.History.{History};
-ghost use Rattle.derivations.specs.Gathered.{Gathered};
+ghost use Rattle.derivations.specs.Gathered.{sheet_of, Gathered};
 ghost use Rattle.derivations.specs.Sheets.{Leaves};
 ghost use Rattle.entries.specs.Entries.{stored};
 ghost use Rattle.scripts.specs.Runs.{steps_of, Ran, RanOne};
@@ -13,7 +13,7 @@ use entries::entry::Entry;
 // One record, of a number; one that is no premise is passed over.
 fn gather_one(gathering: &mut Gathering, entry: Entry<usize>, number: usize) -> Result<(), Fault>
     ensures ran { (h : History) → Gathered gathering.old h → RanOne (steps_of gathering.old) (Gathered gathering.new) h number (stored entry) result }
-    ensures leaves { Leaves gathering.old.sheet gathering.new.sheet }
+    ensures leaves { Leaves (sheet_of gathering.old) (sheet_of gathering.new) }
 {
     if let Entry::Premise(place) = entry {
         gathering
@@ -30,7 +30,7 @@ pub(crate) fn gather(
 ) -> Result<(), Fault>
     requires { first + length entries.now < 2 ^ 64 }
     ensures ran { (h : History) → Gathered gathering.old h → Ran (steps_of gathering.old) (Gathered gathering.new) h first (map stored entries.now) result }
-    ensures leaves { Leaves gathering.old.sheet gathering.new.sheet }
+    ensures leaves { Leaves (sheet_of gathering.old) (sheet_of gathering.new) }
 {
     for (place, entry) in entries.iter().enumerate() {
         gather_one(gathering, *entry, first + place)?;

@@ -1,57 +1,70 @@
-use Rattle.std.proofs.Common.{◌≡◌, ◌+◌, [], ◌∷◌, map, length, Ok, Err, sym, ap, ◌∙◌, subst, subst₂, arith}
+use Rattle.std.proofs.Common.{rules, ◌≡◌, [], ◌∷◌, map, length, Ok, Err, sym, refl, subst, subst₂, arith}
+use mathlib.Core.Logic.{∥∥₁_map}
 use Rattle.std.proofs.lemmas.Grind.{common_steps}
 use Rattle.std.proofs.lemmas.List.{length-map}
 use Rattle.formulas.specs.Stores.{contents}
 use Rattle.fitch.specs.History.{begin}
-use Rattle.derivations.specs.Derived.{Derived}
-use Rattle.derivations.specs.Gathered.{Gathered}
+use Rattle.ledger.proofs.Calling.{begun}
 use Rattle.entries.specs.Entries.{stored}
-use Rattle.scripts.specs.Proofs.{mode_of, front, Concluded}
-use Rattle.scripts.proofs.Deriving.{front_is, back_is, gathered_fault, acted_fault, concluded, gathered_ran, acted_ran, sealed_mode, sealed_formulas}
+use Rattle.scripts.specs.Proofs.{mode_of, Concluded}
+use Rattle.scripts.proofs.Deriving.{front_is, front_long, back_is, gathered_fault, acted_fault, concluded, gathered_ran, gathered_lines, gathered_front, acted_ran, acted_mode, acted_formulas, acted_lines}
 use Rattle.scripts.proofs.derive.derive.Goals as goal
 
 pub returns-in_err-gather-clause-exact : goal.returns-in_err-gather-clause-exact
 returns-in_err-gather-clause-exact c =
     let u = c.in_err-gather.field-0.0 in
     let refused : c.from_residual.result ≡ Err u = grind (arith, common_steps) in
+    let g = c.new-gathering.result in
+    let after = c.gather.new.gathering in
+    let fresh = c.new-gathering.ensures.fresh in
     let firsts = front_is c.args.entries.now c.count_front.ensures.place c.split_at.ensures.front in
-    let gathered = gathered_ran c.new-gathering.ensures.fresh (Gathered c.gather.new.gathering) (Err u) firsts (c.in_err-gather.ensures.ran [] c.new-gathering.ensures.history) in
-    rw refused (gathered.0, gathered_fault (contents c.args.store.now) (length c.args.lines.now) (map stored c.args.entries.now) gathered.0 u gathered.1)
+    let ran = gathered_ran g after fresh c.gather.ensures.leaves (Err u) firsts (c.in_err-gather.ensures.ran [] c.new-gathering.ensures.history) in
+    rw refused (
+      ran.0,
+      gathered_fault (contents c.args.store.now) (length c.args.lines.now) (map stored c.args.entries.now) ran.0 u ran.1,
+      gathered_lines g after fresh c.gather.ensures.leaves ran.0 (search rules) ran.2,
+    )
+
+pub invariant_of-derivation : goal.invariant_of-derivation
+invariant_of-derivation c =
+    let after = c.gather.new.gathering in
+    record {
+      small = after.small;
+      fits = after.fits;
+      few = after.few;
+      recorded = ∥∥₁_map after.recorded (λ r. (_, begun r.1 c.new.ensures));
+    }
 
 pub returns-in_err-act_all-clause-exact : goal.returns-in_err-act_all-clause-exact
 returns-in_err-act_all-clause-exact c =
     let u = c.in_err-act_all.field-0.0 in
     let refused : c.from_residual-in_err-act_all.result ≡ Err u = grind (arith, common_steps) in
-    let fresh = c.new-gathering.ensures.fresh in
-    let xs = map stored c.args.entries.now in
-    let firsts = front_is c.args.entries.now c.count_front.ensures.place c.split_at.ensures.front in
-    let others = back_is c.args.entries.now c.count_front.ensures.place c.split_at.ensures.back in
-    let gathered = gathered_ran fresh (Gathered c.gather.new.gathering) (Ok tt) firsts (c.in_ok-gather.ensures.ran [] c.new-gathering.ensures.history) in
-    let number : length c.split_at.result.0.now + 1 ≡ length (front xs) + 1 = ap (λ n. n + 1) (sym (length-map c.split_at.result.0.now stored) ∙ ap length firsts) in
-    let acted =
-    acted_ran fresh c.gather.ensures.leaves c.open-derivation.ensures.keeps (mode_of xs) c.mode_of.ensures (Derived c.act_all.new.derivation) (begin ∷ gathered.0) (Err u) number others
-    (c.in_err-act_all.ensures.ran (begin ∷ gathered.0) (c.open-derivation.ensures.history gathered.0 gathered.2)) in
-    rw refused (acted.0, acted_fault (contents c.args.store.now) (length c.args.lines.now) xs gathered.0 gathered.1 acted.0 u acted.1)
+    let place = c.count_front.ensures.place in
+    let firsts = front_is c.args.entries.now place c.split_at.ensures.front in
+    let half = gathered_front c.new-gathering.result c.gather.new.gathering c.new-gathering.ensures.fresh c.gather.ensures.leaves (map stored c.args.entries.now) c.mode_of.ensures firsts (c.in_ok-gather.ensures.ran [] c.new-gathering.ensures.history) in
+    let ran =
+    acted_ran half.1 c.act_all.ensures.leaves (record { store = refl; lines = refl; count = refl; mode = refl }) (Err u) (front_long c.args.entries.now place c.split_at.ensures.front) (back_is c.args.entries.now place c.split_at.ensures.back)
+    (c.in_err-act_all.ensures.ran (begin ∷ half.0) (begun half.1.history c.new.ensures)) in
+    rw refused (
+      ran.0,
+      acted_fault (contents c.args.store.now) (length c.args.lines.now) (map stored c.args.entries.now) half.0 half.1.runs ran.0 u ran.1,
+      acted_lines half.1 c.act_all.ensures.leaves (record { store = refl; lines = refl; count = refl; mode = refl }) ran.0 (search rules) ran.2,
+    )
 
 pub returns-clause-exact : goal.returns-clause-exact
 returns-clause-exact c =
-    let fresh = c.new-gathering.ensures.fresh in
     let fs = contents c.args.store.now in
     let xs = map stored c.args.entries.now in
-    let firsts = front_is c.args.entries.now c.count_front.ensures.place c.split_at.ensures.front in
-    let others = back_is c.args.entries.now c.count_front.ensures.place c.split_at.ensures.back in
-    let gathered = gathered_ran fresh (Gathered c.gather.new.gathering) (Ok tt) firsts (c.in_ok-gather.ensures.ran [] c.new-gathering.ensures.history) in
-    let number : length c.split_at.result.0.now + 1 ≡ length (front xs) + 1 = ap (λ n. n + 1) (sym (length-map c.split_at.result.0.now stored) ∙ ap length firsts) in
-    let opens = c.open-derivation.ensures.keeps in
-    let acted =
-    acted_ran fresh c.gather.ensures.leaves opens (mode_of xs) c.mode_of.ensures (Derived c.act_all.new.derivation) (begin ∷ gathered.0) (Ok tt) number others
-    (c.in_ok-act_all.ensures.ran (begin ∷ gathered.0) (c.open-derivation.ensures.history gathered.0 gathered.2)) in
-    let shown = c.conclude.ensures.exact acted.0 (c.seal.ensures.history acted.0 acted.2) in (
-      acted.0,
-      concluded fs (length c.args.lines.now) xs gathered.0 gathered.1 acted.0 acted.1 c.conclude.result
-          (subst (λ n. Concluded (mode_of xs) fs acted.0 n c.conclude.result) (sym (length-map c.args.entries.now stored))
-          (subst₂ (λ m gs. Concluded m gs acted.0 (length c.args.entries.now) c.conclude.result)
-          (sealed_mode fresh c.gather.ensures.leaves opens (mode_of xs) c.mode_of.ensures c.act_all.ensures.leaves c.seal.ensures.keeps)
-          (sealed_formulas fresh c.gather.ensures.leaves opens (mode_of xs) c.mode_of.ensures c.act_all.ensures.leaves c.seal.ensures.keeps)
-          shown)),
+    let place = c.count_front.ensures.place in
+    let firsts = front_is c.args.entries.now place c.split_at.ensures.front in
+    let half = gathered_front c.new-gathering.result c.gather.new.gathering c.new-gathering.ensures.fresh c.gather.ensures.leaves (map stored c.args.entries.now) c.mode_of.ensures firsts (c.in_ok-gather.ensures.ran [] c.new-gathering.ensures.history) in
+    let on = c.act_all.ensures.leaves in
+    let ran =
+    acted_ran half.1 on (record { store = refl; lines = refl; count = refl; mode = refl }) (Ok tt) (front_long c.args.entries.now place c.split_at.ensures.front) (back_is c.args.entries.now place c.split_at.ensures.back)
+    (c.in_ok-act_all.ensures.ran (begin ∷ half.0) (begun half.1.history c.new.ensures)) in (
+      ran.0,
+      concluded fs (length c.args.lines.now) xs half.0 half.1.runs ran.0 ran.1 c.conclude.result
+          (subst (λ n. Concluded (mode_of xs) fs ran.0 n c.conclude.result) (sym (length-map c.args.entries.now stored))
+          (subst₂ (λ m gs. Concluded m gs ran.0 (length c.args.entries.now) c.conclude.result) (acted_mode half.1 on (record { store = refl; lines = refl; count = refl; mode = refl })) (acted_formulas half.1 on (record { store = refl; lines = refl; count = refl; mode = refl })) (c.conclude.ensures.exact ran.0 ran.2))),
+      acted_lines half.1 on (record { store = refl; lines = refl; count = refl; mode = refl }) ran.0 (search rules) ran.2,
     )

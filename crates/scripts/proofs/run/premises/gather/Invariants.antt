@@ -1,6 +1,6 @@
 use Rattle.std.proofs.Common.{map}
 use Rattle.fitch.specs.History.{History}
-use Rattle.derivations.specs.Gathered.{Gathered}
+use Rattle.derivations.specs.Gathered.{sheet_of, Gathered}
 use Rattle.derivations.specs.Sheets.{Leaves}
 use Rattle.entries.specs.Entries.{stored}
 use Rattle.scripts.specs.Runs.{steps_of}
@@ -9,7 +9,7 @@ use Rattle.scripts.proofs.run.premises.gather.Given as goal
 
 abbrev pub invariant-loop-place : goal.invariant-loop-place
 invariant-loop-place l = record {
-  leaves : Leaves l.fn.gathering.sheet l.gathering.sheet;
+  leaves : Leaves (sheet_of l.fn.gathering) (sheet_of l.gathering);
   so_far : (h : History) → Gathered l.fn.gathering h
       → (k : History) × SoFar (steps_of l.fn.gathering) l.first (map stored l.entries) h l.place k × Gathered l.gathering k;
 }
