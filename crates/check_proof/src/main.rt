@@ -1,15 +1,14 @@
 // Checks a proof file from standard input, and prints what it shows, or its first fault.
 #![tactic(auto)]
 
-use checking::answer::Unanswered;
-use checking::check::check;
+use answer_lines::check::check_line;
 use console::limits::{LINES, LONGEST_LINE, MOST_READ, RECORDS};
 use console::{read_input, write_line};
+use entries::entry::Entry;
 use formulas::store::Store;
 use grammar::node::Node;
 use ledger::line::BLANK;
-use printing::checked::write_checked;
-use printing::fault::write_fault;
+use records::records::Records;
 use std::io;
 use std::io::Input;
 
@@ -17,19 +16,17 @@ use std::io::Input;
 fn main(rt: HostRuntime) -> anyhow::Result<()> {
     let mut input = vec![in rt.alloc(); 0; MOST_READ]?;
     let length = read_input(&mut rt.reader(), &mut input)?;
+    let input = &input[..length];
     let mut store = Store::new(vec![in rt.alloc(); Node::Falsum; RECORDS]?).map_err(
         |_| anyhow::anyhow!("too few records for a store"),
     )?;
+    let count = Records { rest: input }.count();
+    let mut entries = vec![in rt.alloc(); Entry::Close; count]?;
     let mut lines = vec![in rt.alloc(); BLANK; LINES]?;
     let mut printed = vec![in rt.alloc(); 0; LONGEST_LINE]?;
-    let written = match check(rt.alloc(), &mut store, &mut lines, &input[..length]) {
-        Ok(checked) => write_checked(&checked, &store, &mut printed),
-        Err(Unanswered::Faulty(fault)) => write_fault(&fault, &mut printed),
-        Err(Unanswered::OutOfMemory) => return Err(anyhow::anyhow!("out of memory")),
-    };
-    let written = written.map_err(|_| anyhow::anyhow!("the answer can't be written"))?;
-    let line = printed
-        .get(..written)
+    let line = check_line(&mut store, &mut entries, &mut lines, input, &mut printed)
+        .ok()
+        .and_then(|written| printed.get(..written))
         .ok_or(anyhow::anyhow!("the answer can't be written"))?;
     write_line(&mut io::writer(&rt), line)?;
     Ok(())
