@@ -14,14 +14,14 @@ use Rattle.answers.specs.declared.fault.Layer.{Layer}
 use Rattle.answers.specs.declared.fault.Layer.TheVariants as layers
 
 -- fields, each behind a tab, and byte 10
-abbrev pub ended : List (List ℕ) → List ℕ
-ended [] = 10 ∷ []
-ended (f ∷ fs) = 9 ∷ f ++ ended fs
+abbrev pub after_tabs : List (List ℕ) → List ℕ
+after_tabs [] = 10 ∷ []
+after_tabs (f ∷ fs) = 9 ∷ f ++ after_tabs fs
 
 -- fields parted by tabs, and byte 10
 abbrev pub row : List (List ℕ) → List ℕ
 row [] = 10 ∷ []
-row (f ∷ fs) = f ++ ended fs
+row (f ∷ fs) = f ++ after_tabs fs
 
 abbrev pub mode_letter : Mode → List ℕ
 mode_letter Constructive = codes "I"

@@ -5,14 +5,14 @@ use Rattle.fitch.specs.declared.rule.Rule.{Rule}
 use Rattle.entries.specs.declared.citations.Citations.{Citations}
 use Rattle.entries.specs.declared.citations.Citations.TheVariants.{One, Two, Three}
 use Rattle.entries.specs.declared.entry.Entry.{Entry}
-use Rattle.entries.specs.declared.entry.Entry.TheVariants.{Mode, Premise, Assume, Step, Close, Part, Base, Pair, Nucleus, Value}
+use Rattle.entries.specs.declared.entry.Entry.TheVariants.{Mode, Premise, Assume, Step, Close, Separator, Base, Pair, Nucleus, Value}
 
 -- what a record says, with its formula as an F: a text, or a place
 pub data Said (F : Type 0) : Type 0 where
   mode : AMode → Said F
   premise assume : F → Said F
   step : F → Rule → List ℕ → Said F
-  close part : Said F
+  close separator : Said F
   base : ℕ → Said F
   pair : ℕ → ℕ → Said F
   nucleus : ℕ → Said F
@@ -30,7 +30,7 @@ said_by f (Premise a) = Said.premise (f a)
 said_by f (Assume a) = Said.assume (f a)
 said_by f (Step a r cs) = Said.step (f a) r (cited cs)
 said_by f Close = Said.close
-said_by f Part = Said.part
+said_by f Separator = Said.separator
 said_by f (Base n) = Said.base n
 said_by f (Pair u v) = Said.pair u v
 said_by f (Nucleus e) = Said.nucleus e

@@ -15,7 +15,7 @@ byte_of kinds.Premise = 80
 byte_of kinds.Assume = 65
 byte_of kinds.Step = 83
 byte_of kinds.Close = 90
-byte_of kinds.Part = 61
+byte_of kinds.Separator = 61
 byte_of kinds.Base = 75
 byte_of kinds.Pair = 76
 byte_of kinds.Nucleus = 78
@@ -27,7 +27,7 @@ found test [] = None
 found test (x ∷ xs) = if test x then Some x else found test xs
 
 abbrev pub all_kinds : List Kind
-all_kinds = kinds.Mode ∷ kinds.Premise ∷ kinds.Assume ∷ kinds.Step ∷ kinds.Close ∷ kinds.Part ∷ kinds.Base ∷ kinds.Pair ∷ kinds.Nucleus ∷ kinds.Value ∷ []
+all_kinds = kinds.Mode ∷ kinds.Premise ∷ kinds.Assume ∷ kinds.Step ∷ kinds.Close ∷ kinds.Separator ∷ kinds.Base ∷ kinds.Pair ∷ kinds.Nucleus ∷ kinds.Value ∷ []
 
 abbrev pub kind_of : ℕ → Option Kind
 kind_of b = found (λ k. byte_of k == b) all_kinds

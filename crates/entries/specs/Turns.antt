@@ -8,17 +8,17 @@ use Rattle.entries.specs.declared.turn.Turn.{Turn}
 use Rattle.entries.specs.declared.turn.Turn.TheVariants.{Start, Premises, Body, Parted, First, Second, Layered, Values}
 
 -- a table for one turn: what comes after each kind
-abbrev by_kind : {A : Type 0} → (m p body part k l n v : A) → Kind → A
-by_kind m p body part k l n v kinds.Mode = m
-by_kind m p body part k l n v kinds.Premise = p
-by_kind m p body part k l n v kinds.Assume = body
-by_kind m p body part k l n v kinds.Step = body
-by_kind m p body part k l n v kinds.Close = body
-by_kind m p body part k l n v kinds.Part = part
-by_kind m p body part k l n v kinds.Base = k
-by_kind m p body part k l n v kinds.Pair = l
-by_kind m p body part k l n v kinds.Nucleus = n
-by_kind m p body part k l n v kinds.Value = v
+abbrev by_kind : {A : Type 0} → (m p body sep k l n v : A) → Kind → A
+by_kind m p body sep k l n v kinds.Mode = m
+by_kind m p body sep k l n v kinds.Premise = p
+by_kind m p body sep k l n v kinds.Assume = body
+by_kind m p body sep k l n v kinds.Step = body
+by_kind m p body sep k l n v kinds.Close = body
+by_kind m p body sep k l n v kinds.Separator = sep
+by_kind m p body sep k l n v kinds.Base = k
+by_kind m p body sep k l n v kinds.Pair = l
+by_kind m p body sep k l n v kinds.Nucleus = n
+by_kind m p body sep k l n v kinds.Value = v
 
 -- only where an algebra file is to follow
 abbrev parting : Format → Option Turn

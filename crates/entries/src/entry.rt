@@ -11,7 +11,7 @@ pub enum Entry<F> {
     Assume(F),
     Step(F, Rule, Citations),
     Close,
-    Part,
+    Separator,
     Base(u32),
     Pair(u32, u32),
     Nucleus(u32),

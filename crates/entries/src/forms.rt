@@ -107,7 +107,7 @@ pub(crate) fn form(kind: Kind, fields: Fields<'_>) -> Result<Entry<&[u8]>, usize
         Kind::Assume => Ok(Entry::Assume(text(fields)?)),
         Kind::Step => step_form(fields),
         Kind::Close => alone(Entry::Close, 2, fields),
-        Kind::Part => alone(Entry::Part, 2, fields),
+        Kind::Separator => alone(Entry::Separator, 2, fields),
         Kind::Base => Ok(Entry::Base(one_number(fields)?)),
         Kind::Pair => pair_form(fields),
         Kind::Nucleus => Ok(Entry::Nucleus(one_number(fields)?)),

@@ -9,7 +9,7 @@ pub enum Kind {
     Assume,
     Step,
     Close,
-    Part,
+    Separator,
     Base,
     Pair,
     Nucleus,

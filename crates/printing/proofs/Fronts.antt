@@ -1,12 +1,12 @@
 -- A text is written in front of what is written behind it.
 use Rattle.std.proofs.Common.{◌≡◌, ℕ, ◌+◌, ◌<◌, min, List, [], ◌∷◌, ◌++◌, length, drop, Ok, sym, ap, ◌∙◌, append_assoc, arith, length-append, length-drop}
 use Rattle.std.proofs.lemmas.List.{drop-drop}
-use Rattle.answers.specs.Rows.{ended}
+use Rattle.answers.specs.Rows.{after_tabs}
 use Rattle.printing.specs.Printing.{Printed}
 
-pub ended_long : (fields : List (List ℕ)) → 0 < length (ended fields)
-ended_long [] = omega arith
-ended_long (f ∷ fields) = omega arith
+pub after_tabs_long : (fields : List (List ℕ)) → 0 < length (after_tabs fields)
+after_tabs_long [] = omega arith
+after_tabs_long (f ∷ fields) = omega arith
 
 -- behind a text of length n, or in nothing where it does not fit, some line is written
 module _ (StoredBehind : Type 0) (line before rest after : List ℕ) (n at m : ℕ) (here : at ≡ min n (length before)) (cut : rest ≡ drop at before) (some : 0 < length line) (behind : Printed StoredBehind line rest after (Ok m)) where

@@ -3,7 +3,7 @@ ghost use Rattle.std.specs.Prelude.{◌≡◌, [], ◌∷◌, map, length};
 ghost use Rattle.grammar.specs.Writing.{text_at};
 ghost use Rattle.formulas.specs.Stores.{contents};
 ghost use Rattle.verdicts.specs.Weighing.{AllBelow};
-ghost use Rattle.answers.specs.Rows.{ended};
+ghost use Rattle.answers.specs.Rows.{after_tabs};
 ghost use Rattle.printing.specs.Endings.{last_fields, IsStored};
 ghost use Rattle.printing.specs.Printing.{Printed};
 
@@ -32,7 +32,7 @@ fn write_end(buffer: &mut [u8]) -> Result<usize, Refusal>
 
 // Formulas, each behind a tab, and the last byte.
 fn write_formulas(store: &Store, places: &[usize], buffer: &mut [u8]) -> Result<usize, Refusal>
-    ensures { Printed (AllBelow places.now (length (contents store.now))) (ended (map (text_at (contents store.now)) places.now)) buffer.old buffer.new result }
+    ensures { Printed (AllBelow places.now (length (contents store.now))) (after_tabs (map (text_at (contents store.now)) places.now)) buffer.old buffer.new result }
 {
     let [place, others @ ..] = places else {
         return write_end(buffer);
@@ -49,7 +49,7 @@ fn write_formulas(store: &Store, places: &[usize], buffer: &mut [u8]) -> Result<
 impl Ending<'_> {
     // The last fields, each behind a tab, and the last byte.
     pub(crate) fn write(self, buffer: &mut [u8]) -> Result<usize, Refusal>
-        ensures { Printed (IsStored self.entry) (ended (last_fields self.entry)) buffer.old buffer.new result }
+        ensures { Printed (IsStored self.entry) (after_tabs (last_fields self.entry)) buffer.old buffer.new result }
     {
         match self {
             Ending::Nothing => write_end(buffer),

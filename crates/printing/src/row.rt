@@ -1,6 +1,6 @@
 // The fields of a line.
 ghost use Rattle.std.specs.Prelude.{◌∷◌, ◌++◌, map};
-ghost use Rattle.answers.specs.Rows.{ended, row};
+ghost use Rattle.answers.specs.Rows.{after_tabs, row};
 ghost use Rattle.printing.specs.Endings.{last_fields, IsStored};
 ghost use Rattle.printing.specs.Printing.{Printed};
 
@@ -10,7 +10,7 @@ use grammar::refusal::Refusal;
 
 // Fields, each behind a tab, and what ends the line.
 fn write_fields(fields: &[&[u8]], ending: Ending<'_>, buffer: &mut [u8]) -> Result<usize, Refusal>
-    ensures { Printed (IsStored ending.entry) (ended (map (λ f. f.now) fields.now ++ last_fields ending.entry)) buffer.old buffer.new result }
+    ensures { Printed (IsStored ending.entry) (after_tabs (map (λ f. f.now) fields.now ++ last_fields ending.entry)) buffer.old buffer.new result }
 {
     let [field, others @ ..] = fields else {
         return ending.write(buffer);

@@ -26,7 +26,7 @@ fn enter(store: &mut Store, said: Entry<&[u8]>) -> Result<Entry<usize>, Refusal>
         Entry::Assume(text) => Entry::Assume(store.read(text)?),
         Entry::Step(text, rule, citations) => Entry::Step(store.read(text)?, rule, citations),
         Entry::Close => Entry::Close,
-        Entry::Part => Entry::Part,
+        Entry::Separator => Entry::Separator,
         Entry::Base(worlds) => Entry::Base(worlds),
         Entry::Pair(u, v) => Entry::Pair(u, v),
         Entry::Nucleus(element) => Entry::Nucleus(element),

@@ -23,14 +23,14 @@ acts (Said.step p r cs) = true
 acts Said.close = true
 acts _ = false
 
-abbrev mode_by : Said ℕ → Mode
-mode_by (Said.mode m) = m
-mode_by _ = Constructive
+abbrev mode_said : Said ℕ → Mode
+mode_said (Said.mode m) = m
+mode_said _ = Constructive
 
 -- the mode that the first record says; constructive, where it says none
 abbrev pub mode_of : List (Said ℕ) → Mode
 mode_of [] = Constructive
-mode_of (x ∷ xs) = mode_by x
+mode_of (x ∷ xs) = mode_said x
 
 -- the records before the first that ends the gathering, and those from it on
 abbrev pub front : List (Said ℕ) → List (Said ℕ)

@@ -3,7 +3,7 @@
 
 use answer_lines::weigh::weigh_line;
 use console::limits::{LINES, LONGEST_LINE, MOST_READ, RECORDS};
-use console::{read_input, write_line};
+use console::{fill, write_line};
 use entries::entry::Entry;
 use formulas::store::Store;
 use grammar::node::Node;
@@ -15,7 +15,7 @@ use std::io::Input;
 // Where nothing can be answered, the program ends with an error: input that can't be read, output that can't be written, no memory.
 fn main(rt: HostRuntime) -> anyhow::Result<()> {
     let mut input = vec![in rt.alloc(); 0; MOST_READ]?;
-    let length = read_input(&mut rt.reader(), &mut input)?;
+    let length = fill(&mut rt.reader(), &mut input)?;
     let input = &input[..length];
     let mut store = Store::new(vec![in rt.alloc(); Node::Falsum; RECORDS]?).map_err(
         |_| anyhow::anyhow!("too few records for a store"),

@@ -8,7 +8,7 @@ use Rattle.entries.specs.declared.turn.Format.TheVariants.{Weighing}
 use Rattle.entries.specs.declared.turn.Turn.{Turn}
 use Rattle.entries.specs.declared.turn.Turn.TheVariants.{Start, Premises, Body, Parted, First, Second, Layered, Values}
 use Rattle.algebra_files.specs.Files.{Base, File, pair_said, value_said, base_said, layer_said, optional, written}
-use Rattle.weighing_files.specs.Weighing.{parts, algebra_part}
+use Rattle.weighing_files.specs.Weighing.{separates, algebra_part}
 
 -- what may follow in an algebra file, from each turn on
 abbrev Tail : Turn → List (Said ℕ) → Type 0
@@ -47,11 +47,11 @@ further n x xs = ap (λ k. drop k (x ∷ xs)) more
     more : 1 + n + 1 ≡ suc (n + 1)
     more = omega arith
 
--- the record before is none that parts
-one_passed : (x : Said ℕ) (xs : List (Said ℕ)) → parts x ≡ false → Tail Body xs → Tail Body (x ∷ xs)
-one_passed x xs not_part t = (t.0, ap (λ n. drop (n + 1) (x ∷ xs)) (behind (parts x) not_part) ∙ further (position_or_len parts xs) x xs ∙ t.1)
+-- the record before is no separator
+one_passed : (x : Said ℕ) (xs : List (Said ℕ)) → separates x ≡ false → Tail Body xs → Tail Body (x ∷ xs)
+one_passed x xs not_part t = (t.0, ap (λ n. drop (n + 1) (x ∷ xs)) (behind (separates x) not_part) ∙ further (position_or_len separates xs) x xs ∙ t.1)
   where
-    behind : (b : Bool) → b ≡ false → cond (not b) (1 + position_or_len parts xs) 0 ≡ 1 + position_or_len parts xs
+    behind : (b : Bool) → b ≡ false → cond (not b) (1 + position_or_len separates xs) 0 ≡ 1 + position_or_len separates xs
     behind false e = refl
     behind true e = absurd (cc)
 
@@ -61,7 +61,7 @@ one_before Start (Said.premise p) later xs comes tail = absurd (cc)
 one_before Start (Said.assume p) later xs comes tail = absurd (cc)
 one_before Start (Said.step p r cs) later xs comes tail = absurd (cc)
 one_before Start Said.close later xs comes tail = absurd (cc)
-one_before Start Said.part later xs comes tail = absurd (cc)
+one_before Start Said.separator later xs comes tail = absurd (cc)
 one_before Start (Said.base n) later xs comes tail = absurd (cc)
 one_before Start (Said.pair u v) later xs comes tail = absurd (cc)
 one_before Start (Said.nucleus e) later xs comes tail = absurd (cc)
@@ -71,7 +71,7 @@ one_before Premises (Said.premise p) later xs comes tail = let t : Tail Premises
 one_before Premises (Said.assume p) later xs comes tail = let t : Tail Body xs = tail_is xs comes tail in one_passed (Said.assume p) xs refl t
 one_before Premises (Said.step p r cs) later xs comes tail = let t : Tail Body xs = tail_is xs comes tail in one_passed (Said.step p r cs) xs refl t
 one_before Premises Said.close later xs comes tail = let t : Tail Body xs = tail_is xs comes tail in one_passed Said.close xs refl t
-one_before Premises Said.part later xs comes tail = let t : Tail Parted xs = tail_is xs comes tail in t
+one_before Premises Said.separator later xs comes tail = let t : Tail Parted xs = tail_is xs comes tail in t
 one_before Premises (Said.base n) later xs comes tail = absurd (cc)
 one_before Premises (Said.pair u v) later xs comes tail = absurd (cc)
 one_before Premises (Said.nucleus e) later xs comes tail = absurd (cc)
@@ -81,7 +81,7 @@ one_before Body (Said.premise p) later xs comes tail = absurd (cc)
 one_before Body (Said.assume p) later xs comes tail = let t : Tail Body xs = tail_is xs comes tail in one_passed (Said.assume p) xs refl t
 one_before Body (Said.step p r cs) later xs comes tail = let t : Tail Body xs = tail_is xs comes tail in one_passed (Said.step p r cs) xs refl t
 one_before Body Said.close later xs comes tail = let t : Tail Body xs = tail_is xs comes tail in one_passed Said.close xs refl t
-one_before Body Said.part later xs comes tail = let t : Tail Parted xs = tail_is xs comes tail in t
+one_before Body Said.separator later xs comes tail = let t : Tail Parted xs = tail_is xs comes tail in t
 one_before Body (Said.base n) later xs comes tail = absurd (cc)
 one_before Body (Said.pair u v) later xs comes tail = absurd (cc)
 one_before Body (Said.nucleus e) later xs comes tail = absurd (cc)
@@ -91,7 +91,7 @@ one_before Parted (Said.premise p) later xs comes tail = absurd (cc)
 one_before Parted (Said.assume p) later xs comes tail = absurd (cc)
 one_before Parted (Said.step p r cs) later xs comes tail = absurd (cc)
 one_before Parted Said.close later xs comes tail = absurd (cc)
-one_before Parted Said.part later xs comes tail = absurd (cc)
+one_before Parted Said.separator later xs comes tail = absurd (cc)
 one_before Parted (Said.base n) later xs comes tail = let t : Tail First xs = tail_is xs comes tail in (record { first = record { worlds = n; pairs = t.0 }; second = t.1; layer = t.2; values = t.3 }, ap (λ ys. Said.base n ∷ ys) t.4)
 one_before Parted (Said.pair u v) later xs comes tail = absurd (cc)
 one_before Parted (Said.nucleus e) later xs comes tail = absurd (cc)
@@ -101,7 +101,7 @@ one_before First (Said.premise p) later xs comes tail = absurd (cc)
 one_before First (Said.assume p) later xs comes tail = absurd (cc)
 one_before First (Said.step p r cs) later xs comes tail = absurd (cc)
 one_before First Said.close later xs comes tail = absurd (cc)
-one_before First Said.part later xs comes tail = absurd (cc)
+one_before First Said.separator later xs comes tail = absurd (cc)
 one_before First (Said.base n) later xs comes tail = let t : Tail Second xs = tail_is xs comes tail in ([], Some (record { worlds = n; pairs = t.0 }), t.1, t.2, ap (λ ys. Said.base n ∷ ys) t.3)
 one_before First (Said.pair u v) later xs comes tail = let t : Tail First xs = tail_is xs comes tail in ((u, v) ∷ t.0, t.1, t.2, t.3, ap (λ ys. Said.pair u v ∷ ys) t.4)
 one_before First (Said.nucleus e) later xs comes tail = let t : Tail Layered xs = tail_is xs comes tail in ([], None, Some e, t.0, ap (λ ys. Said.nucleus e ∷ ys) t.1)
@@ -111,7 +111,7 @@ one_before Second (Said.premise p) later xs comes tail = absurd (cc)
 one_before Second (Said.assume p) later xs comes tail = absurd (cc)
 one_before Second (Said.step p r cs) later xs comes tail = absurd (cc)
 one_before Second Said.close later xs comes tail = absurd (cc)
-one_before Second Said.part later xs comes tail = absurd (cc)
+one_before Second Said.separator later xs comes tail = absurd (cc)
 one_before Second (Said.base n) later xs comes tail = absurd (cc)
 one_before Second (Said.pair u v) later xs comes tail = let t : Tail Second xs = tail_is xs comes tail in ((u, v) ∷ t.0, t.1, t.2, ap (λ ys. Said.pair u v ∷ ys) t.3)
 one_before Second (Said.nucleus e) later xs comes tail = let t : Tail Layered xs = tail_is xs comes tail in ([], Some e, t.0, ap (λ ys. Said.nucleus e ∷ ys) t.1)
@@ -121,7 +121,7 @@ one_before Layered (Said.premise p) later xs comes tail = absurd (cc)
 one_before Layered (Said.assume p) later xs comes tail = absurd (cc)
 one_before Layered (Said.step p r cs) later xs comes tail = absurd (cc)
 one_before Layered Said.close later xs comes tail = absurd (cc)
-one_before Layered Said.part later xs comes tail = absurd (cc)
+one_before Layered Said.separator later xs comes tail = absurd (cc)
 one_before Layered (Said.base n) later xs comes tail = absurd (cc)
 one_before Layered (Said.pair u v) later xs comes tail = absurd (cc)
 one_before Layered (Said.nucleus e) later xs comes tail = absurd (cc)
@@ -131,7 +131,7 @@ one_before Values (Said.premise p) later xs comes tail = absurd (cc)
 one_before Values (Said.assume p) later xs comes tail = absurd (cc)
 one_before Values (Said.step p r cs) later xs comes tail = absurd (cc)
 one_before Values Said.close later xs comes tail = absurd (cc)
-one_before Values Said.part later xs comes tail = absurd (cc)
+one_before Values Said.separator later xs comes tail = absurd (cc)
 one_before Values (Said.base n) later xs comes tail = absurd (cc)
 one_before Values (Said.pair u v) later xs comes tail = absurd (cc)
 one_before Values (Said.nucleus e) later xs comes tail = absurd (cc)

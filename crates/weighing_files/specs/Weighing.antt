@@ -21,16 +21,16 @@ use Rattle.algebra_files.specs.Files.{File, written}
 use Rattle.algebra_files.specs.Meant.{Means}
 use Rattle.algebra_files.specs.Outcomes.{Outcome}
 
--- the record that parts the two files
-abbrev pub parts : Said ℕ → Bool
-parts Said.part = true
-parts _ = false
+-- the record between the two files
+abbrev pub separates : Said ℕ → Bool
+separates Said.separator = true
+separates _ = false
 
 abbrev pub proof_part : List (Said ℕ) → List (Said ℕ)
-proof_part xs = before_first parts xs
+proof_part xs = before_first separates xs
 
 abbrev pub algebra_part : List (Said ℕ) → List (Said ℕ)
-algebra_part xs = drop (position_or_len parts xs + 1) xs
+algebra_part xs = drop (position_or_len separates xs + 1) xs
 
 -- an input s, read into a store that held fs and then holds gs, into entries, with line records and a buffer for values:
 -- the verdict, or the first fault, of the records before any of the lines, of these before any of the algebra

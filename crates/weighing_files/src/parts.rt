@@ -2,25 +2,25 @@
 ghost use Rattle.std.specs.Prelude.{◌≡◌, ◌≤◌, length, map, position};
 ghost use Rattle.std.specs.List.{position_or_len};
 ghost use Rattle.entries.specs.Entries.{stored};
-ghost use Rattle.weighing_files.specs.Weighing.{parts, proof_part, algebra_part};
+ghost use Rattle.weighing_files.specs.Weighing.{separates, proof_part, algebra_part};
 
 use entries::entry::Entry;
 
-fn part(entries: &[Entry<usize>]) -> Option<usize>
-    ensures { result ≡ position (λ e. parts (stored e)) entries.now }
+fn separator(entries: &[Entry<usize>]) -> Option<usize>
+    ensures { result ≡ position (λ e. separates (stored e)) entries.now }
 {
     entries
         .iter()
-        .position(|entry| matches!(entry, Entry::Part))
+        .position(|entry| matches!(entry, Entry::Separator))
 }
 
 // How many records the proof file has.
 #[tactic(auto, using(scripts::proofs::Fronts::first_within))]
 fn count_proof(entries: &[Entry<usize>]) -> usize
-    ensures place { result ≡ position_or_len parts (map stored entries.now) }
+    ensures place { result ≡ position_or_len separates (map stored entries.now) }
     ensures within { result ≤ length entries.now }
 {
-    part(entries).unwrap_or(entries.len())
+    separator(entries).unwrap_or(entries.len())
 }
 
 // The records before `=`, and those after it.

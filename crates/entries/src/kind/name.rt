@@ -15,7 +15,7 @@ impl Kind {
             'A' => Some(Kind::Assume),
             'S' => Some(Kind::Step),
             'Z' => Some(Kind::Close),
-            '=' => Some(Kind::Part),
+            '=' => Some(Kind::Separator),
             'K' => Some(Kind::Base),
             'L' => Some(Kind::Pair),
             'N' => Some(Kind::Nucleus),

@@ -16,7 +16,7 @@ impl Turn {
             (Turn::Premises | Turn::Body, Kind::Assume | Kind::Step | Kind::Close) => {
                 Some(Turn::Body)
             }
-            (Turn::Premises | Turn::Body, Kind::Part) => match format {
+            (Turn::Premises | Turn::Body, Kind::Separator) => match format {
                 Format::Proof => None,
                 Format::Weighing => Some(Turn::Parted),
             },
