@@ -13,11 +13,19 @@ use verdicts::verdict::Verdict;
 
 const P: usize = 16;
 
+// A place that holds no formula.
+const MISSING: usize = 28;
+
 // The record of the first entry.
 const FIRST: usize = 8;
 
-// From p follows (q>p).
-fn weighed(heap: Global, entries: &[Entry<usize>]) -> Result<Result<Verdict, Unanswered>, Fail> {
+// From p follows what stands at a place, or else (q>p).
+fn weighed_by(
+    heap: Global,
+    entries: &[Entry<usize>],
+    place: Option<usize>,
+    values: &mut [u32],
+) -> Result<Result<Verdict, Unanswered>, Fail> {
     let mut store = Store::new(vec![in heap; Node::Falsum; 28]?).map_err(
         grammar::refusal::Refusal::from,
     )?;
@@ -28,10 +36,13 @@ fn weighed(heap: Global, entries: &[Entry<usize>]) -> Result<Result<Verdict, Una
         mode: Mode::Constructive,
         places,
         count: 1,
-        conclusion,
+        conclusion: place.unwrap_or(conclusion),
     };
-    let mut values = [0; 28];
-    Ok(weigh_in_file(&sequent, &store, entries, FIRST, &mut values))
+    Ok(weigh_in_file(&sequent, &store, entries, FIRST, values))
+}
+
+fn weighed(heap: Global, entries: &[Entry<usize>]) -> Result<Result<Verdict, Unanswered>, Fail> {
+    weighed_by(heap, entries, None, &mut [0; 28])
 }
 
 fn holds(meet: u32, conclusion: u32) -> Result<Verdict, Unanswered> {
@@ -83,6 +94,26 @@ fn faults(rt: HostRuntime) -> Result<(), Fail> {
     assert_eq!(rt;
         weighed(heap, &[Entry::Close])?,
         Err(Unanswered::Faulty(Fault::At(FIRST, Reason::Form(1))))
+    );
+    Ok(())
+}
+
+#[test]
+fn order(rt: HostRuntime) -> Result<(), Fail> {
+    let heap = rt.alloc();
+    let letter = [Entry::Base(2), Entry::Pair(0, 1), Entry::Value(b'p', 1)];
+    assert_eq!(rt;
+        weighed_by(heap, &letter, Some(MISSING), &mut [])?,
+        Err(Unanswered::NotStored)
+    );
+    assert_eq!(rt;
+        weighed_by(heap, &letter, None, &mut [])?,
+        Err(Unanswered::ShortBuffer)
+    );
+    let layer = [Entry::Base(2), Entry::Pair(0, 1), Entry::Nucleus(1)];
+    assert_eq!(rt;
+        weighed_by(heap, &layer, Some(MISSING), &mut [])?,
+        fault(10, Refusal::NotMember)
     );
     Ok(())
 }

@@ -138,7 +138,7 @@ pub orders_more : (n : ℕ) (pairs : List (ℕ × ℕ)) (above after : ℕ → �
 orders_more n pairs above after u v hu hv is orders a b ha hb = (
   λ e. ⊎_elim (λ p. order_in pairs (u, v) a b ((orders a b ha hb).0 p))
       (λ p. let q = and_parts (above a u) (above v b) p in
-        order_trans (order_in pairs (u, v) a u ((orders a u ha hu).0 q.0)) (order_trans (order_last pairs u v) (order_in pairs (u, v) v b ((orders v b hv hb).0 q.1))))
+      order_trans (order_in pairs (u, v) a u ((orders a u ha hu).0 q.0)) (order_trans (order_last pairs u v) (order_in pairs (u, v) v b ((orders v b hv hb).0 q.1))))
       (or_cases (above a b) (above a u && above v b) (sym (is a b ha) ∙ e)),
   λ o. is a b ha ∙ ⊎_elim (λ p. or_left (above a b) (above a u && above v b) ((orders a b ha hb).1 p))
       (λ p. or_right (above a b) (above a u && above v b) (and_from (above a u) (above v b) ((orders a u ha hu).1 p.0) ((orders v b hv hb).1 p.1)))
