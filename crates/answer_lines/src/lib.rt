@@ -7,5 +7,7 @@
 
 pub mod check;
 mod print;
+#[cfg(test)]
+mod tests;
 pub mod unprinted;
 pub mod weigh;
