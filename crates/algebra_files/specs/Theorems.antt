@@ -20,12 +20,12 @@ pub record Settled : Type 0 where
   pub not_both :
       (first : ℕ) (f : File) (m : Meaning) (v : List ℕ) (n : ℕ) (r : Refusal) → Means f m → Elements m.bottom f.values v → ByMembers m v
       → FileFault first f n r → ⊥
-  -- in a file
+  -- a file has one answer at most
   pub one_answer :
       (first : ℕ) (f : File) (fs : List Formula) (s : Sequent) (before a b : List ℕ) (r q : Result Verdict Unanswered)
       → Outcome (Means f) (FileFault first f) fs f.values s before a r → Outcome (Means f) (FileFault first f) fs f.values s before b q
       → (r ≡ q) × (a ≡ b)
-  -- to any entries
+  -- entries have one answer at most, whether a file's or not
   pub one_weighing :
       (first : ℕ) (xs : List (Said ℕ)) (fs : List Formula) (s : Sequent) (before a b : List ℕ) (r q : Result Verdict Unanswered)
       → WeighedInFile first xs fs s before a r → WeighedInFile first xs fs s before b q → (r ≡ q) × (a ≡ b)

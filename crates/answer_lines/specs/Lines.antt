@@ -37,7 +37,7 @@ abbrev pub VerdictPrinted : Result Verdict Unanswered → List ℕ → List ℕ 
 VerdictPrinted (Ok verdict) before after r = LinePrinted (verdict_row verdict) before after r
 VerdictPrinted (Err why) before after r = UnansweredPrinted why before after r
 
--- why there is no answer, where all places are stored
+-- a reason for which something is told: any but a place that is not stored
 abbrev pub CanBeTold : Unanswered → Type 0
 CanBeTold answers.NotStored = ⊥
 CanBeTold _ = Unit {0}

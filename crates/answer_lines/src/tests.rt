@@ -17,9 +17,7 @@ const BOTH: &[u8] = b"M\tI\nP\tp\nS\tp\tR\t1\n=\nK\t1\n";
 const HOLDS: &[u8] = b"HOLDS\t0\t0\n";
 
 fn store(heap: Global) -> Result<Store, Fail> {
-    Ok(Store::new(vec![in heap; Node::Falsum; 27]?).map_err(
-        grammar::refusal::Refusal::from,
-    )?)
+    Ok(Store::new(vec![in heap; Node::Falsum; 27]?).map_err(grammar::refusal::Refusal::from)?)
 }
 
 fn checked(
@@ -29,7 +27,13 @@ fn checked(
     buffer: &mut [u8],
 ) -> Result<Result<usize, Unprinted>, Fail> {
     let mut entries = vec![in heap; Entry::Close; entries]?;
-    Ok(check_line(&mut store(heap)?, &mut entries, &mut [BLANK; 2], input, buffer))
+    Ok(check_line(
+        &mut store(heap)?,
+        &mut entries,
+        &mut [BLANK; 2],
+        input,
+        buffer,
+    ))
 }
 
 fn weighed(
@@ -40,16 +44,14 @@ fn weighed(
 ) -> Result<Result<usize, Unprinted>, Fail> {
     let mut entries = vec![in heap; Entry::Close; entries]?;
     let mut values = vec![in heap; 7; values]?;
-    Ok(
-        weigh_line(
-            &mut store(heap)?,
-            &mut entries,
-            &mut [BLANK; 2],
-            &mut values,
-            BOTH,
-            buffer,
-        ),
-    )
+    Ok(weigh_line(
+        &mut store(heap)?,
+        &mut entries,
+        &mut [BLANK; 2],
+        &mut values,
+        BOTH,
+        buffer,
+    ))
 }
 
 #[test]
@@ -67,10 +69,22 @@ fn just_enough(rt: HostRuntime) -> Result<(), Fail> {
 #[test]
 fn one_too_few(rt: HostRuntime) -> Result<(), Fail> {
     let mut line = [7; 10];
-    assert_eq!(rt; checked(rt.alloc(), 2, PROOF, &mut line)?, Err(Unprinted::ShortEntries));
-    assert_eq!(rt; checked(rt.alloc(), 3, PROOF, &mut line)?, Err(Unprinted::ShortLine));
-    assert_eq!(rt; weighed(rt.alloc(), 4, 27, &mut line)?, Err(Unprinted::ShortEntries));
-    assert_eq!(rt; weighed(rt.alloc(), 5, 26, &mut line)?, Err(Unprinted::ShortValues));
+    assert_eq!(rt;
+        checked(rt.alloc(), 2, PROOF, &mut line)?,
+        Err(Unprinted::ShortEntries)
+    );
+    assert_eq!(rt;
+        checked(rt.alloc(), 3, PROOF, &mut line)?,
+        Err(Unprinted::ShortLine)
+    );
+    assert_eq!(rt;
+        weighed(rt.alloc(), 4, 27, &mut line)?,
+        Err(Unprinted::ShortEntries)
+    );
+    assert_eq!(rt;
+        weighed(rt.alloc(), 5, 26, &mut line)?,
+        Err(Unprinted::ShortValues)
+    );
     assert_eq!(rt; line, [7; 10]);
     Ok(())
 }

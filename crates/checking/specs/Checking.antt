@@ -17,7 +17,7 @@ abbrev pub answered : Result Checked Fault → Result Checked Unanswered
 answered (Ok c) = Ok c
 answered (Err fault) = Err (Faulty fault)
 
--- a proof file s, read into a store that held fs and then holds gs, into entries and with line records: what it shows, or its first fault, of its records before any of its lines
+-- a proof file s, read into a store that held fs and then holds gs, into entries and with line records: what it shows, or its first fault; one of a record comes before any of a line or of the sequent
 pub data Checks (capacity : ℕ) (s : List ℕ) (fs gs : List Formula) (entries entries_then : List (Entry ℕ)) (lines lines_then : List Line) : Result Checked Unanswered → Type 0 where
   no_room : NoRoom s fs gs entries entries_then → lines_then ≡ lines → Checks capacity s fs gs entries entries_then lines lines_then (Err ShortEntries)
   not_read :

@@ -15,7 +15,7 @@ SameChecking (Ok c) (Ok d) = SameShown c d
 SameChecking (Err a) (Err b) = a ≡ b
 SameChecking _ _ = ⊥
 
--- no other answer a, and no other store that holds gs, is one to the proof file s
+-- every answer to the proof file s tells what a tells, and leaves a store that holds gs
 abbrev pub Only : ℕ → List ℕ → List Formula → List Formula → List (Entry ℕ) → List Line → Result Checked Unanswered → Type 0
 Only capacity s fs gs entries lines a =
     (hs : List Formula) (entries_then : List (Entry ℕ)) (lines_then : List Line) (b : Result Checked Unanswered)

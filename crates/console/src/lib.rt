@@ -26,7 +26,7 @@ pub fn fill<R: Read>(reader: &mut R, buffer: &mut [u8]) -> io::Result<usize>
     Ok(filled)
 }
 
-// Writes a line that a library call has put together.
+// Writes a line, and flushes.
 pub fn write_line<W: Write>(writer: &mut W, line: &[u8]) -> io::Result<()>
     ensures { OnOk result (Appends (W.contents writer.old) (W.contents writer.new) line.now) }
 {

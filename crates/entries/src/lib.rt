@@ -1,9 +1,10 @@
 // The records of files by what they say.
 //
-//   entry::Entry     what a record says, its formula as a text or as a place
-//   kind::Kind       the kind of a record
-//   turn::Turn       which kinds may come next
-//   parse::parse     what a record says, or its first wrong, missing or surplus field
+//   entry::Entry           what a record says, its formula as a text or as a place
+//   citations::Citations   what a step cites, as a record says it
+//   kind::Kind             the kind of a record
+//   turn::Turn             which kinds may come next
+//   parse::parse           what a record says, or its first wrong, missing or surplus field
 #![tactic(auto)]
 
 pub mod citations;

@@ -9,7 +9,7 @@ pub enum Format {
     Weighing,
 }
 
-// What has come so far: nothing; the mode and premises; a line or a close as well; then `=`; a base; two bases; a layer; values.
+// What has come so far: nothing; the mode and premises; an assumption, a step or a close as well; then `=`; a base; two bases; a layer; values.
 #[derive(Clone, Copy, PartialEq, Debug)]
 pub enum Turn {
     Start,

@@ -49,9 +49,9 @@ pub record NoRoom (s : List ℕ) (fs gs : List Formula) (before after : List (En
   pub formulas : gs ≡ fs
   pub entries : after ≡ before
 
--- an input s, read into a store that held fs and then holds gs: how many records say something, or why it is not read
+-- an input s, read into a store that held fs and then holds gs: how many records it has, or why it is not read
 abbrev pub InputRead : ℕ → Format → List ℕ → List Formula → List Formula → List (Entry ℕ) → List (Entry ℕ) → Result ℕ Unanswered → Type 0
-InputRead capacity format s fs gs before after (Ok n) = (xs : List (Said ℕ)) × SaysInto capacity format s fs gs before after xs None × (n ≡ length xs)
+InputRead capacity format s fs gs before after (Ok n) = (xs : List (Said ℕ)) × SaysInto capacity format s fs gs before after xs None × (n ≡ length xs) × (n ≡ length (records s))
 InputRead capacity format s fs gs before after (Err ShortEntries) = NoRoom s fs gs before after
 InputRead capacity format s fs gs before after (Err NotStored) = ⊥
 InputRead capacity format s fs gs before after (Err ShortBuffer) = ⊥

@@ -36,6 +36,7 @@ placed (Said.pair u v) p = Said.pair u v
 placed (Said.nucleus e) p = Said.nucleus e
 placed (Said.value a e) p = Said.value a e
 
+-- a record without a formula is the same at every place, and leaves the store
 abbrev pub EntersText : ℕ → Said (List ℕ) → Option (List ℕ) → List Formula → List Formula → Result (Said ℕ) Refusal → Type 0
 EntersText capacity x None fs gs r = (r ≡ Ok (placed x 0)) × (gs ≡ fs)
 EntersText capacity x (Some s) fs gs r = (a : Result ℕ Refusal) × Read s capacity fs gs a × (r ≡ onto (placed x) a)

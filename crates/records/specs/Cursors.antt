@@ -7,7 +7,7 @@ use Rattle.records.specs.declared.fields.Fields.{Fields}
 use Rattle.records.specs.declared.records.Records.{Records}
 use Rattle.records.specs.declared.records.Record.{Record}
 
--- the pieces that are left, between bytes of a kind
+-- what is left, cut at each such byte; nothing, once the last run was taken
 abbrev pub left : ℕ → Option (Bor (List ℕ)) → List (List ℕ)
 left byte None = []
 left byte (Some s) = slice_split (λ b. b == byte) s.now

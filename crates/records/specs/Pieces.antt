@@ -14,7 +14,7 @@ abbrev pub last_piece : List ℕ → List Piece
 last_piece [] = []
 last_piece (b ∷ bs) = (b ∷ bs, false) ∷ []
 
--- pieces between bytes 10: all but the last are ended, and that is a record only if it is not empty
+-- runs between bytes 10: each but the last is a record that is ended; the last is a record, not ended, if it is not empty
 abbrev pub ended : List (List ℕ) → List Piece
 ended [] = []
 ended (p ∷ []) = last_piece p

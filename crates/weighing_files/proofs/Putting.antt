@@ -26,11 +26,12 @@ use Rattle.weighing_files.specs.Unique.{Answers}
 use Rattle.weighing_files.specs.Weighing.{proof_part, algebra_part, Weighs, Confirmed}
 use Rattle.weighing_files.proofs.Settling.{one_weighing}
 use Rattle.weighing_files.proofs.Tails.{algebra_written}
+use Rattle.weighing_files.proofs.Telling.{always_stored}
 
 module _ (cap : ℕ) (s : List ℕ) (fs gs : List Formula) (es es_then : List (Entry ℕ)) (once : Once fs) where
   the_one :
       (ls ls_then : List Line) (vs vs_then : List ℕ) (r : Result Verdict Unanswered) → Weighs cap s fs gs es es_then ls ls_then vs vs_then r → Answers cap s fs gs es es_then ls ls_then vs vs_then r
-  the_one ls ls_then vs vs_then r weighs = record { weighs = weighs; only = one_weighing cap s fs gs es es_then ls ls_then vs vs_then r once weighs }
+  the_one ls ls_then vs vs_then r weighs = record { weighs = weighs; only = one_weighing cap s fs gs es es_then ls ls_then vs vs_then r once weighs; stored = always_stored weighs }
 
   unanswered : (ls : List Line) (vs : List ℕ) (why : Unanswered) → InputRead cap Weighing s fs gs es es_then (Err why) → Weighs cap s fs gs es es_then ls ls vs vs (Err why)
   unanswered ls vs ShortEntries none = Weighs.no_room none refl refl

@@ -33,7 +33,7 @@ abbrev pub algebra_part : List (Said ℕ) → List (Said ℕ)
 algebra_part xs = drop (position_or_len separates xs + 1) xs
 
 -- an input s, read into a store that held fs and then holds gs, into entries, with line records and a buffer for values:
--- the verdict, or the first fault, of the records before any of the lines, of these before any of the algebra
+-- the verdict, or the first fault; one of a record comes before any of a line or of the sequent, and these before any of the algebra
 pub data Weighs (capacity : ℕ) (s : List ℕ) (fs gs : List Formula) (entries entries_then : List (Entry ℕ)) (lines lines_then : List Line) (values values_then : List ℕ) : Result Verdict Unanswered → Type 0 where
   no_room :
       NoRoom s fs gs entries entries_then → lines_then ≡ lines → values_then ≡ values
@@ -50,7 +50,7 @@ pub data Weighs (capacity : ℕ) (s : List ℕ) (fs gs : List Formula) (entries 
       → Outcome (Means f) (FileFault (length (proof_part xs) + 2) f) gs f.values c.sequent values values_then r
       → Weighs capacity s fs gs entries entries_then lines lines_then values values_then r
 
--- in the algebra that the file means, a verdict confirms what the proof file shows: it holds of a constructive one, and of the double negation of what a classical one shows
+-- in the algebra that the file means (that there is one is told by `derived`), a verdict confirms what the proof file shows: it holds of a constructive one, and of the double negation of what a classical one shows
 abbrev pub Confirmed : ℕ → List ℕ → List Formula → Result Verdict Unanswered → Type 0
 Confirmed capacity s fs (Ok verdict) =
     (gs : List Formula) (xs : List (Said ℕ)) (f : File) (m : Meaning) → InputSays capacity Weighing s fs gs xs None → algebra_part xs ≡ written f → Means f m

@@ -11,8 +11,8 @@ const NEWLINE: u8 = b'\n';
 const TAB: u8 = b'\t';
 
 impl<'i> Records<'i> {
-    #[tactic(auto, using(crate::proofs::Cutting::first_ended, crate::proofs::Cutting::only_record))]
     // The next record, if one is left.
+    #[tactic(auto, using(crate::proofs::Cutting::first_ended, crate::proofs::Cutting::only_record))]
     pub fn next(&mut self) -> Option<Record<'i>>
         ensures { MatchOption result ((records_to_come self.old ≡ []) × (self.new ≡ self.old)) (λ r. records_to_come self.old ≡ piece r ∷ records_to_come self.new) }
     {
@@ -37,8 +37,8 @@ impl<'i> Records<'i> {
 }
 
 impl Records<'_> {
-    #[tactic(auto, using(crate::proofs::Cutting::few))]
     // How many records are left.
+    #[tactic(auto, using(crate::proofs::Cutting::few))]
     pub fn count(self) -> usize
         ensures { result ≡ length (records_to_come self.entry) }
     {

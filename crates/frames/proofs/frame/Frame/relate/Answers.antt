@@ -1,4 +1,4 @@
-use Rattle.std.proofs.Common.{◌≡◌, ℕ, ◌<◌, List, ◌∷◌, [], ◌++◌, get_or, sym, subst, arith}
+use Rattle.std.proofs.Common.{◌≡◌, ℕ, ◌<◌, List, ◌∷◌, [], ◌++◌, get_or, refl, sym, subst, arith}
 use Rattle.heyting.specs.Tables.{table, kripke}
 use Rattle.heyting.specs.Worlds.{FrameOf}
 use Rattle.heyting.proofs.Closures.{Orders, grown, grown_above, grown_lt, related_ordered, orders_more, closure_frame}
@@ -46,4 +46,6 @@ returns c =
     let row = rows (goal.at.returns c).After-loop-row in (
       (hu, hv),
       λ worlds pairs o. record { worlds_is = o.worlds_is; order = one_more f u v up hu hv row worlds pairs o; frame = still_frame f u v up hu hv row worlds pairs o },
+      refl,
+      λ w x h. grown_above f.worlds f.up up u v row w x h,
     )
