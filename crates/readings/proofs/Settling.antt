@@ -1,5 +1,5 @@
 -- An input has no two readings.
-use Rattle.std.proofs.Common.{◌≡◌, ℕ, ◌+◌, List, ◌∷◌, Some, None, Option, Ok, Err, Result, sym, refl, ap, ap₂, ◌∙◌, subst, subst₂, arith}
+use Rattle.std.proofs.Common.{◌≡◌, ℕ, ◌+◌, List, ◌∷◌, ◌++◌, map, length, take, drop, take-append-drop, Some, None, Option, Ok, Err, Result, sym, refl, ap, ap₂, ◌∙◌, subst, subst₂, arith}
 use Rattle.grammar.specs.Contents.{Once}
 use Rattle.grammar.specs.Formula.{Formula}
 use Rattle.grammar.specs.Reading.{Read}
@@ -7,7 +7,8 @@ use Rattle.grammar.specs.declared.refusal.Refusal.{Refusal}
 use Rattle.grammar.proofs.Adding.{entered_once}
 use Rattle.grammar.proofs.Readings.{one_answer}
 use Rattle.records.specs.Pieces.{Piece}
-use Rattle.entries.specs.Entries.{Said}
+use Rattle.std.proofs.lemmas.List.{map-append}
+use Rattle.entries.specs.Entries.{Said, stored}
 use Rattle.entries.specs.Forms.{onto, record_form}
 use Rattle.entries.specs.declared.turn.Format.{Format}
 use Rattle.entries.specs.declared.turn.Turn.{Turn}
@@ -17,7 +18,7 @@ use Rattle.answers.specs.declared.fault.Reason.{Reason}
 use Rattle.readings.specs.Reading.{text_of, placed, EntersText, after_form, ByForm, Reads, InputSays}
 use Rattle.std.specs.Option.{unwrap_or}
 use Rattle.entries.specs.declared.entry.Entry.{Entry}
-use Rattle.readings.specs.Answers.{NoRoom, SaysInto}
+use Rattle.readings.specs.Answers.{Kept, NoRoom, SaysInto}
 use Rattle.readings.specs.Settled.{SameReading, OneReading}
 
 -- two outcomes are the same
@@ -112,3 +113,10 @@ fault_or_none e = absurd (cc)
 
 pub same_fault : {a b : Fault} → ◌≡◌ {A = Option Fault} (Some a) (Some b) → a ≡ b
 same_fault {a} e = ap (λ o. unwrap_or o a) e
+
+-- what was put into entries settles all that they say then
+pub kept_once : {xs : List (Said ℕ)} {before a b : List (Entry ℕ)} → Kept xs before a → Kept xs before b → map stored a ≡ map stored b
+kept_once {xs} {before} {a} {b} p q = whole a p ∙ sym (whole b q)
+  where
+    whole : (es : List (Entry ℕ)) → Kept xs before es → map stored es ≡ xs ++ map stored (drop (length xs) before)
+    whole es k = ap (map stored) (sym (take-append-drop (length xs) es)) ∙ map-append stored (take (length xs) es) (drop (length xs) es) ∙ ap₂ (λ ys zs. ys ++ map stored zs) k.said k.rest

@@ -1,5 +1,5 @@
 -- A derivation shows one thing, or has one first fault.
-use Rattle.std.proofs.Common.{◌≡◌, ℕ, suc, ◌<◌, ◌⊎◌, inl, inr, ⊎_elim, List, [], ◌∷◌, map, length, get_or, Some, None, Option, Ok, Err, Result, refl, sym, ap, ap₂, ◌∙◌, subst, arith}
+use Rattle.std.proofs.Common.{◌≡◌, ℕ, suc, ◌<◌, ◌⊎◌, inl, inr, ⊎_elim, List, [], ◌∷◌, map, length, get_or, take, ◌++◌, take-append-drop, Some, None, Option, Ok, Err, Result, refl, sym, ap, ap₂, ◌∙◌, subst, arith}
 use Rattle.std.proofs.lemmas.List.{get_or-take, length-take}
 use Rattle.grammar.specs.Contents.{formula_at, Once}
 use Rattle.grammar.specs.Formula.{Formula}
@@ -18,7 +18,12 @@ use Rattle.answers.specs.declared.checked.Checked.{Checked}
 use Rattle.answers.specs.declared.fault.Fault.{Fault}
 use Rattle.answers.specs.declared.fault.Fault.TheVariants.{TooLong, At}
 use Rattle.answers.specs.declared.fault.Reason.TheVariants as reasons
-use Rattle.scripts.specs.Proofs.{mode_of, Concluded, Derives, RunsAll}
+use Rattle.fitch.specs.History.{count}
+use Rattle.fitch.specs.Records.{blank}
+use Rattle.fitch.specs.declared.rule.Reason.{Reason}
+use Rattle.ledger.specs.Recorded.{kept, no_line, Recorded}
+use Rattle.ledger.specs.declared.line.Line.{Line as ALine}
+use Rattle.scripts.specs.Proofs.{mode_of, Concluded, Derives, RunsAll, LinesOf}
 use Rattle.scripts.specs.Settled.{SameShown, SameAnswer, OneDerivation}
 use Rattle.scripts.proofs.Settling.{runs_all_once}
 
@@ -114,5 +119,40 @@ derives_once fs slice xs h k (Ok c) (Err v) once p q = absurd (shown_or_refused 
 derives_once fs slice xs h k (Err u) (Ok d) once p q = absurd (shown_or_refused fs slice xs k h d u q p)
 derives_once fs slice xs h k (Err u) (Err v) once p q = same_fault fs slice xs h k u v p q
 
+abbrev made : ℕ → Reason → ℕ → ℕ → ℕ → ALine
+made f r i a e = record { formula = f; reason = r; inside = i; around = a; end = e }
+
+one_line : (fs : List Formula) → Once fs → (x y : ALine) → x.formula < length fs → y.formula < length fs → kept fs x ≡ kept fs y → x ≡ y
+one_line fs once x y within also e =
+    ap (λ f. made f x.reason x.inside x.around x.end) (one_place fs once x.formula y.formula within also (ap (λ k. k.formula) e))
+    ∙ ap (λ r. made y.formula r x.inside x.around x.end) (ap (λ k. k.reason) e)
+    ∙ ap (λ i. made y.formula y.reason i x.around x.end) (ap (λ k. k.inside) e)
+    ∙ ap (λ a. made y.formula y.reason y.inside a x.end) (ap (λ k. k.around) e)
+    ∙ ap (λ n. made y.formula y.reason y.inside y.around n) (ap (λ k. k.end) e)
+
+abbrev AllStored : List Formula → List ALine → Type 0
+AllStored fs es = (k : ℕ) → k < length es → (get_or es k no_line).formula < length fs
+
+one_lines : (fs : List Formula) → Once fs → (es ds : List ALine) → AllStored fs es → AllStored fs ds → map (kept fs) es ≡ map (kept fs) ds → es ≡ ds
+one_lines fs once [] [] within also e = refl
+one_lines fs once [] (d ∷ ds) within also e = absurd (cc)
+one_lines fs once (x ∷ es) [] within also e = absurd (cc)
+one_lines fs once (x ∷ es) (d ∷ ds) within also e =
+    ap₂ (λ y ys. y ∷ ys)
+    (one_line fs once x d (within 0 (omega arith)) (also 0 (omega arith)) (ap (first_or blank) e))
+    (one_lines fs once es ds (λ k lt. within (suc k) (omega (arith, lt))) (λ k lt. also (suc k) (omega (arith, lt))) (ap rest_of e))
+
+-- the history settles the line records
+lines_once : (fs : List Formula) → Once fs → (before a b : List ALine) (h : History) → LinesOf fs before a h → LinesOf fs before b h → a ≡ b
+lines_once fs once before a b h p q =
+    sym (take-append-drop (count h) a)
+    ∙ ap₂ (λ xs ys. xs ++ ys) (one_lines fs once (take (count h) a) (take (count h) b) (first_stored a p.recorded) (first_stored b q.recorded) (p.recorded.lines ∙ sym q.recorded.lines)) (p.rest ∙ sym q.rest)
+    ∙ take-append-drop (count h) b
+  where
+    first_stored : (es : List ALine) → Recorded fs es (count h) h → AllStored fs (take (count h) es)
+    first_stored es r k lt =
+        let few : k < count h = omega (arith, lt, length-take (count h) es) in
+        subst (λ l. l.formula < length fs) (sym (get_or-take (count h) es k no_line few)) (r.stored k few)
+
 pub one_derivation : OneDerivation
-one_derivation = record { runs = runs_all_once; answers = derives_once }
+one_derivation = record { runs = runs_all_once; answers = derives_once; lines = lines_once }

@@ -5,10 +5,11 @@ use Rattle.grammar.specs.Formula.{Formula}
 use Rattle.fitch.specs.History.{History}
 use Rattle.fitch.specs.declared.refusal.Refusal.{Refusal}
 use Rattle.ledger.specs.Sequents.{premise_places}
+use Rattle.ledger.specs.declared.line.Line.{Line}
 use Rattle.entries.specs.Entries.{Said}
 use Rattle.answers.specs.declared.checked.Checked.{Checked}
 use Rattle.answers.specs.declared.fault.Fault.{Fault}
-use Rattle.scripts.specs.Proofs.{RunsAll, Derives}
+use Rattle.scripts.specs.Proofs.{RunsAll, Derives, LinesOf}
 
 -- the same in all that is told
 pub record SameShown (c d : Checked) : Type 0 where
@@ -23,7 +24,7 @@ SameAnswer (Ok c) (Err e) = ⊥
 SameAnswer (Err e) (Ok d) = ⊥
 SameAnswer (Err e) (Err d) = e ≡ d
 
--- records reach one history, stopped by one fault or by none; and over formulas that are held once they show one thing, or have one first fault
+-- records reach one history, stopped by one fault or by none; and over formulas that are held once they show one thing, or have one first fault, and leave one slice
 pub record OneDerivation : Type 0 where
   pub runs :
       (fs : List Formula) (slice : ℕ) (xs : List (Said ℕ)) (h k : History) (d e : Option (ℕ × Refusal))
@@ -31,3 +32,4 @@ pub record OneDerivation : Type 0 where
   pub answers :
       (fs : List Formula) (slice : ℕ) (xs : List (Said ℕ)) (h k : History) (a b : Result Checked Fault)
       → Once fs → Derives fs slice xs h a → Derives fs slice xs k b → (h ≡ k) × SameAnswer a b
+  pub lines : (fs : List Formula) → Once fs → (before a b : List Line) (h : History) → LinesOf fs before a h → LinesOf fs before b h → a ≡ b
