@@ -1,5 +1,5 @@
 // Derivations with just as many premises, boxes and lines as there may be, and one more; every refusal by number and place.
-use crate::writing::{fresh_store, told};
+use crate::writing::{assert_line, assert_refused, fresh_store};
 use derivations::gathering::Gathering;
 use fitch::mode::Mode;
 use fitch::rule::{Reason, Rule};
@@ -30,14 +30,14 @@ fn thirty_two_premises_and_one_more(rt: HostRuntime) -> Result<(), Fail> {
     let mut lines = [MARK; 34];
     let mut gathering = Gathering::new(&store, &mut lines, Mode::Constructive);
     for number in 1..33 {
-        assert_eq!(rt; told(gathering.premise(NOWHERE)), Some((7, 0)));
-        assert_eq!(rt; gathering.premise(P), Ok(number));
+        assert_refused(&rt, gathering.premise(NOWHERE), 7, 0);
+        assert_line(&rt, gathering.premise(P), number);
     }
-    assert_eq!(rt; told(gathering.premise(NOWHERE)), Some((7, 0)));
-    assert_eq!(rt; told(gathering.premise(P)), Some((8, 0)));
-    assert_eq!(rt; told(gathering.line(33)), Some((12, 0)));
+    assert_refused(&rt, gathering.premise(NOWHERE), 7, 0);
+    assert_refused(&rt, gathering.premise(P), 8, 0);
+    assert_refused(&rt, gathering.line(33), 12, 0);
     let mut open = gathering.open();
-    assert_eq!(rt; open.step(P, Rule::Reiterate, &[32]), Ok(33));
+    assert_line(&rt, open.step(P, Rule::Reiterate, &[32]), 33);
     let sequent = open.seal().sequent()?;
     assert!(rt; sequent.premises() == [P; 32].as_slice());
     assert_eq!(rt; sequent.conclusion, P);
@@ -51,11 +51,11 @@ fn the_thirty_third_premise_is_refused_before_its_record(rt: HostRuntime) -> Res
     let mut lines = [MARK; 32];
     let mut gathering = Gathering::new(&store, &mut lines, Mode::Classical);
     for number in 1..33 {
-        assert_eq!(rt; gathering.premise(Q), Ok(number));
+        assert_line(&rt, gathering.premise(Q), number);
     }
-    assert_eq!(rt; told(gathering.premise(P)), Some((8, 0)));
+    assert_refused(&rt, gathering.premise(P), 8, 0);
     let mut open = gathering.open();
-    assert_eq!(rt; told(open.step(Q, Rule::Reiterate, &[1])), Some((9, 0)));
+    assert_refused(&rt, open.step(Q, Rule::Reiterate, &[1]), 9, 0);
     Ok(())
 }
 
@@ -63,16 +63,16 @@ fn the_thirty_third_premise_is_refused_before_its_record(rt: HostRuntime) -> Res
 fn empty_line_memory(rt: HostRuntime) -> Result<(), Fail> {
     let store = fresh_store(rt.alloc())?;
     let mut gathering = Gathering::new(&store, &mut [], Mode::Constructive);
-    assert_eq!(rt; told(gathering.premise(NOWHERE)), Some((7, 0)));
-    assert_eq!(rt; told(gathering.premise(P)), Some((9, 0)));
-    assert_eq!(rt; told(gathering.line(0)), Some((12, 0)));
-    assert_eq!(rt; told(gathering.line(1)), Some((12, 0)));
+    assert_refused(&rt, gathering.premise(NOWHERE), 7, 0);
+    assert_refused(&rt, gathering.premise(P), 9, 0);
+    assert_refused(&rt, gathering.line(0), 12, 0);
+    assert_refused(&rt, gathering.line(1), 12, 0);
     let mut open = gathering.open();
-    assert_eq!(rt; told(open.assume(NOWHERE)), Some((7, 0)));
-    assert_eq!(rt; told(open.assume(P)), Some((9, 0)));
-    assert_eq!(rt; told(open.step(P, Rule::Reiterate, &[1])), Some((12, 1)));
-    assert_eq!(rt; told(open.close()), Some((16, 0)));
-    assert_eq!(rt; told(open.seal().sequent()), Some((18, 0)));
+    assert_refused(&rt, open.assume(NOWHERE), 7, 0);
+    assert_refused(&rt, open.assume(P), 9, 0);
+    assert_refused(&rt, open.step(P, Rule::Reiterate, &[1]), 12, 1);
+    assert_refused(&rt, open.close(), 16, 0);
+    assert_refused(&rt, open.seal().sequent(), 18, 0);
     Ok(())
 }
 
@@ -82,20 +82,20 @@ fn sixteen_boxes_and_one_more(rt: HostRuntime) -> Result<(), Fail> {
     let mut lines = [MARK; 18];
     let mut open = Gathering::new(&store, &mut lines, Mode::Constructive).open();
     for number in 1..17 {
-        assert_eq!(rt; open.assume(P), Ok(number));
+        assert_line(&rt, open.assume(P), number);
     }
-    assert_eq!(rt; told(open.assume(NOWHERE)), Some((7, 0)));
-    assert_eq!(rt; told(open.assume(P)), Some((10, 0)));
-    assert_eq!(rt; open.step(P, Rule::Reiterate, &[1]), Ok(17));
+    assert_refused(&rt, open.assume(NOWHERE), 7, 0);
+    assert_refused(&rt, open.assume(P), 10, 0);
+    assert_line(&rt, open.step(P, Rule::Reiterate, &[1]), 17);
     for _ in 0..16 {
-        assert_eq!(rt; open.close(), Ok(()));
+        open.close()?;
     }
-    assert_eq!(rt; told(open.close()), Some((16, 0)));
-    assert_eq!(rt; open.assume(Q), Ok(18));
-    assert_eq!(rt; told(open.assume(Q)), Some((9, 0)));
-    assert_eq!(rt; open.close(), Ok(()));
-    assert_eq!(rt; told(open.close()), Some((16, 0)));
-    assert_eq!(rt; told(open.seal().sequent()), Some((18, 0)));
+    assert_refused(&rt, open.close(), 16, 0);
+    assert_line(&rt, open.assume(Q), 18);
+    assert_refused(&rt, open.assume(Q), 9, 0);
+    open.close()?;
+    assert_refused(&rt, open.close(), 16, 0);
+    assert_refused(&rt, open.seal().sequent(), 18, 0);
     Ok(())
 }
 
@@ -105,10 +105,10 @@ fn the_seventeenth_box_is_refused_before_its_record(rt: HostRuntime) -> Result<(
     let mut lines = [MARK; 16];
     let mut open = Gathering::new(&store, &mut lines, Mode::Constructive).open();
     for number in 1..17 {
-        assert_eq!(rt; open.assume(P), Ok(number));
+        assert_line(&rt, open.assume(P), number);
     }
-    assert_eq!(rt; told(open.assume(P)), Some((10, 0)));
-    assert_eq!(rt; told(open.seal().sequent()), Some((17, 0)));
+    assert_refused(&rt, open.assume(P), 10, 0);
+    assert_refused(&rt, open.seal().sequent(), 17, 0);
     Ok(())
 }
 
@@ -117,24 +117,24 @@ fn all_lines_and_one_more(rt: HostRuntime) -> Result<(), Fail> {
     let store = fresh_store(rt.alloc())?;
     let mut lines = vec![in rt.alloc(); MARK; 1030]?;
     let mut gathering = Gathering::new(&store, &mut lines, Mode::Constructive);
-    assert_eq!(rt; gathering.premise(P), Ok(1));
+    assert_line(&rt, gathering.premise(P), 1);
     let mut open = gathering.open();
-    assert_eq!(rt; open.assume(Q), Ok(2));
+    assert_line(&rt, open.assume(Q), 2);
     for number in 3..1025 {
-        assert_eq!(rt; open.step(P, Rule::Reiterate, &[1]), Ok(number));
+        assert_line(&rt, open.step(P, Rule::Reiterate, &[1]), number);
     }
-    assert_eq!(rt; told(open.step(Q, Rule::Reiterate, &[1])), Some((15, 0)));
-    assert_eq!(rt; told(open.step(P, Rule::Reiterate, &[1024])), Some((9, 0)));
-    assert_eq!(rt; told(open.step(P, Rule::Reiterate, &[1025])), Some((12, 1)));
-    assert_eq!(rt; told(open.assume(P)), Some((9, 0)));
+    assert_refused(&rt, open.step(Q, Rule::Reiterate, &[1]), 15, 0);
+    assert_refused(&rt, open.step(P, Rule::Reiterate, &[1024]), 9, 0);
+    assert_refused(&rt, open.step(P, Rule::Reiterate, &[1025]), 12, 1);
+    assert_refused(&rt, open.assume(P), 9, 0);
     let last = LineInfo {
         formula: P,
         reason: Reason::Step(Rule::Reiterate, [1, 0, 0]),
         innermost: 2,
     };
     assert_eq!(rt; open.line(1024), Ok(last));
-    assert_eq!(rt; told(open.line(1025)), Some((12, 0)));
-    assert_eq!(rt; open.close(), Ok(()));
+    assert_refused(&rt, open.line(1025), 12, 0);
+    open.close()?;
     let sealed = open.seal();
     assert_eq!(rt; sealed.line(1024), Ok(last));
     assert_eq!(rt; sealed.sequent()?.conclusion, P);

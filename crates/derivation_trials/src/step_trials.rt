@@ -1,5 +1,5 @@
 // Steps after premises and boxes, closed and open: which are refused, by number and place, and which are accepted.
-use crate::writing::{fresh_store, told};
+use crate::writing::{assert_line, assert_refused, fresh_store, told};
 use derivations::gathering::Gathering;
 use derivations::open::Open;
 use fitch::mode::Mode;
@@ -113,13 +113,13 @@ fn steps_after_boxes(rt: HostRuntime) -> Result<(), Fail> {
     let mut open = gathering.open();
     nest(&mut open)?;
     refuses_the_wrong(&rt, &mut open);
-    assert_eq!(rt; open.step(Q, Rule::ImpElim, &[2, 1]), Ok(8));
-    assert_eq!(rt; open.step(Q_IMPLIES_Q, Rule::ImpIntro, &[4]), Ok(9));
-    assert_eq!(rt; open.step(P_OR_Q, Rule::OrLeft, &[1]), Ok(10));
-    assert_eq!(rt; open.step(P, Rule::Reiterate, &[7]), Ok(11));
-    assert_eq!(rt; told(open.step(P, Rule::ImpElim, &[2, 1])), Some((15, 0)));
-    assert_eq!(rt; told(open.step(Q, Rule::ImpElim, &[2, 1])), Some((9, 0)));
-    assert_eq!(rt; open.close(), Ok(()));
+    assert_line(&rt, open.step(Q, Rule::ImpElim, &[2, 1]), 8);
+    assert_line(&rt, open.step(Q_IMPLIES_Q, Rule::ImpIntro, &[4]), 9);
+    assert_line(&rt, open.step(P_OR_Q, Rule::OrLeft, &[1]), 10);
+    assert_line(&rt, open.step(P, Rule::Reiterate, &[7]), 11);
+    assert_refused(&rt, open.step(P, Rule::ImpElim, &[2, 1]), 15, 0);
+    assert_refused(&rt, open.step(Q, Rule::ImpElim, &[2, 1]), 9, 0);
+    open.close()?;
     let sequent = open.seal().sequent()?;
     assert_eq!(rt; sequent.conclusion, P_OR_Q);
     assert!(rt; sequent.premises() == [P, P_IMPLIES_Q, P_OR_Q].as_slice());
@@ -150,11 +150,11 @@ fn lines_are_told_in_every_state(rt: HostRuntime) -> Result<(), Fail> {
         };
         assert_eq!(rt; open.line(number), Ok(info));
     }
-    assert_eq!(rt; told(open.line(0)), Some((12, 0)));
-    assert_eq!(rt; told(open.line(8)), Some((12, 0)));
+    assert_refused(&rt, open.line(0), 12, 0);
+    assert_refused(&rt, open.line(8), 12, 0);
     let sealed = open.seal();
-    assert_eq!(rt; told(sealed.line(8)), Some((12, 0)));
-    assert_eq!(rt; told(sealed.sequent()), Some((17, 0)));
+    assert_refused(&rt, sealed.line(8), 12, 0);
+    assert_refused(&rt, sealed.sequent(), 17, 0);
     Ok(())
 }
 
@@ -171,12 +171,9 @@ fn what_is_assumed_must_be_a_negation(rt: HostRuntime) -> Result<(), Fail> {
     open.step(0, Rule::ImpElim, &[2, 1])?;
     open.close()?;
     for formula in 0..store.count() {
-        assert_eq!(rt;
-            told(open.step(formula, Rule::Reductio, &[3])),
-            Some((15, 0))
-        );
+        assert_refused(&rt, open.step(formula, Rule::Reductio, &[3]), 15, 0);
     }
-    assert_eq!(rt; open.step(NOT_Q, Rule::ImpIntro, &[3]), Ok(5));
+    assert_line(&rt, open.step(NOT_Q, Rule::ImpIntro, &[3]), 5);
     Ok(())
 }
 

@@ -1,6 +1,6 @@
 // Why a sequent or a derivation has no verdict, by number and place, and the verdicts of excluded middle at two stages.
 use crate::small_frames::TWO_STAGES;
-use crate::writing::{fresh_store, told};
+use crate::writing::{assert_refused, fresh_store};
 use algebras::algebra::Algebra;
 use derivations::gathering::Gathering;
 use fitch::mode::Mode;
@@ -45,23 +45,29 @@ fn sequents_are_refused_in_turn(rt: HostRuntime) -> Result<(), Fail> {
     let frame = TWO_STAGES.frame()?;
     let other = fresh_store(rt.alloc())?;
     let mut buffer = [UNTOUCHED; 30];
-    assert_eq!(rt;
-        told(weigh(&sequent, &other, &frame, &valuation_of(1), &mut [])),
-        Some((7, 0))
+    assert_refused(
+        &rt,
+        weigh(&sequent, &other, &frame, &valuation_of(1), &mut []),
+        7,
+        0,
     );
-    assert_eq!(rt;
-        told(weigh(
+    assert_refused(
+        &rt,
+        weigh(
             &sequent,
             &store,
             &frame,
             &valuation_of(1),
-            &mut buffer[..28]
-        )),
-        Some((25, 0))
+            &mut buffer[..28],
+        ),
+        25,
+        0,
     );
-    assert_eq!(rt;
-        told(weigh(&sequent, &store, &frame, &valuation_of(1), &mut buffer)),
-        Some((26, 16))
+    assert_refused(
+        &rt,
+        weigh(&sequent, &store, &frame, &valuation_of(1), &mut buffer),
+        26,
+        16,
     );
     assert!(rt; buffer == [UNTOUCHED; 30]);
     let verdict = Verdict {
@@ -95,13 +101,17 @@ fn derivations_are_judged(rt: HostRuntime) -> Result<(), Fail> {
     let frame = TWO_STAGES.frame()?;
     let layer = Nucleus::double_negation(&frame);
     let mut buffer = [UNTOUCHED; 29];
-    assert_eq!(rt;
-        told(judge(&sealed, &frame, &valuation_of(2), &mut [])),
-        Some((25, 0))
+    assert_refused(
+        &rt,
+        judge(&sealed, &frame, &valuation_of(2), &mut []),
+        25,
+        0,
     );
-    assert_eq!(rt;
-        told(judge(&sealed, &layer, &valuation_of(2), &mut buffer)),
-        Some((26, 16))
+    assert_refused(
+        &rt,
+        judge(&sealed, &layer, &valuation_of(2), &mut buffer),
+        26,
+        16,
     );
     assert!(rt; buffer == [UNTOUCHED; 29]);
     let early = Verdict {
@@ -132,16 +142,15 @@ fn unfinished_derivations_are_not_judged(rt: HostRuntime) -> Result<(), Fail> {
     let empty = Gathering::new(&store, &mut [], Mode::Constructive)
         .open()
         .seal();
-    assert_eq!(rt;
-        told(judge(&empty, &frame, &valuation_of(0), &mut [])),
-        Some((18, 0))
-    );
+    assert_refused(&rt, judge(&empty, &frame, &valuation_of(0), &mut []), 18, 0);
     let mut lines = [BLANK; 1];
     let mut open = Gathering::new(&store, &mut lines, Mode::Classical).open();
     open.assume(P)?;
-    assert_eq!(rt;
-        told(judge(&open.seal(), &frame, &valuation_of(0), &mut [])),
-        Some((17, 0))
+    assert_refused(
+        &rt,
+        judge(&open.seal(), &frame, &valuation_of(0), &mut []),
+        17,
+        0,
     );
     Ok(())
 }

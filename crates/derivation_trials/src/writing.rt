@@ -68,6 +68,19 @@ pub(crate) fn told<T: Drop, R: Told + Copy>(answer: Result<T, R>) -> Option<(u8,
         .map(|refusal| (refusal.number(), refusal.place()))
 }
 
+pub(crate) fn assert_line(rt: &impl Abort, answer: Result<usize, Refusal>, number: usize) {
+    assert_eq!(rt; answer, Ok(number));
+}
+
+pub(crate) fn assert_refused<T: Drop, R: Told + Copy>(
+    rt: &impl Abort,
+    answer: Result<T, R>,
+    number: u8,
+    place: usize,
+) {
+    assert_eq!(rt; told(answer), Some((number, place)));
+}
+
 // Writes one act, and answers the line's number, or 0 for the end of a box.
 fn write(open: &mut Open, act: Act, place: usize) -> Result<usize, Refusal> {
     match act {
