@@ -19,9 +19,9 @@ use Rattle.entries.specs.Entries.{Said, stored}
 use Rattle.entries.specs.declared.entry.Entry.{Entry}
 use Rattle.answers.specs.declared.checked.Checked.{Checked}
 use Rattle.answers.specs.declared.fault.Fault.{Fault}
-use Rattle.scripts.proofs.Running.{of_derivation, drop_further}
+use Rattle.scripts.proofs.Running.{drop_further}
 use Rattle.scripts.specs.Proofs.{acts, mode_of, front, back, Concluded, Derives, LinesOf}
-use Rattle.scripts.specs.Runs.{premise_steps, act_steps, steps_of, steps_in, Runs, OfDerivation, Ran}
+use Rattle.scripts.specs.Runs.{premise_steps, act_steps, steps_of, steps_in, Runs, Ran}
 
 -- what splits the records where the first that ends the gathering stands
 module _ (es : List (Entry ℕ)) {k : ℕ} {xs : List (Entry ℕ)} (is : k ≡ position_or_len acts (map stored es)) where
@@ -35,16 +35,16 @@ module _ (es : List (Entry ℕ)) {k : ℕ} {xs : List (Entry ℕ)} (is : k ≡ p
   back_is split = ap (map stored) split ∙ sym (drop-map stored k es) ∙ ap (λ n. drop n (map stored es)) is
 
 module _ (fs : List Formula) (slice : ℕ) (xs : List (Said ℕ)) where
-  pub gathered_fault : (k : History) (u : Fault) → OfDerivation (λ n e. Runs (premise_steps fs slice) [] 1 (front xs) k (Some (n, e))) u → Derives fs slice xs k (Err u)
-  gathered_fault k u runs = of_derivation (λ n e p. inl (k, Some (n, e), p, (refl, refl))) u runs
+  pub gathered_fault : (k : History) (u : Fault) → Runs (premise_steps fs slice) [] 1 (front xs) k (Some u) → Derives fs slice xs k (Err u)
+  gathered_fault k u runs = inl (k, Some u, runs, (refl, refl))
 
   module _ (k : History) (gathered : Runs (premise_steps fs slice) [] 1 (front xs) k None) (j : History) where
-    pub acted_fault : (u : Fault) → OfDerivation (λ n e. Runs (act_steps (mode_of xs) fs slice) (begin ∷ k) (length (front xs) + 1) (back xs) j (Some (n, e))) u → Derives fs slice xs j (Err u)
-    acted_fault u runs = of_derivation (λ n e p. inl (k, None, gathered, p)) u runs
+    pub acted_fault : (u : Fault) → Runs (act_steps (mode_of xs) fs slice) (begin ∷ k) (length (front xs) + 1) (back xs) j (Some u) → Derives fs slice xs j (Err u)
+    acted_fault u runs = inl (k, None, gathered, runs)
 
     pub concluded : Runs (act_steps (mode_of xs) fs slice) (begin ∷ k) (length (front xs) + 1) (back xs) j None → (r : Result Checked Fault) → Concluded (mode_of xs) fs j (length xs) r → Derives fs slice xs j r
     concluded acted (Ok c) shown = ((k, None, gathered, acted), shown)
-    concluded acted (Err u) shown = of_derivation (λ n e p. inr ((k, None, gathered, acted), p.0, p.1)) u shown
+    concluded acted (Err u) shown = inr ((k, None, gathered, acted), shown)
 
 -- the records from n on are as they were
 pub record Past (n : ℕ) (before after : List Line) : Type 0 where

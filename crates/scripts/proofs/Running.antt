@@ -1,21 +1,18 @@
 -- Records are run one after the other.
 use Rattle.std.proofs.Common.{◌≡◌, ℕ, ◌+◌, ◌-◌, ◌<◌, ◌≤◌, List, ◌∷◌, map, length, get_or, drop, Some, None, Option, Err, sym, refl, ap, ap₂, ◌∙◌, subst, arith}
 use Rattle.std.proofs.lemmas.List.{drop-drop, drop-map, drop_more, drop_all}
-use Rattle.fitch.specs.Checks.{Accepted, Refused}
+use Rattle.fitch.specs.Checks.{Accepted}
 use Rattle.fitch.specs.History.{History}
-use Rattle.fitch.specs.declared.refusal.Refusal.{Refusal}
 use Rattle.derivations.specs.Derived.{sheet_in, Leaves as LeavesOpen}
 use Rattle.derivations.specs.Sheets.{Sheet, formulas_of, Leaves}
 use Rattle.derivations.specs.declared.open.Open.{Open}
 use Rattle.entries.specs.Entries.{Said, stored}
 use Rattle.answers.specs.declared.fault.Fault.{Fault}
-use Rattle.answers.specs.declared.fault.Fault.TheVariants.{TooLong, At}
-use Rattle.answers.specs.declared.fault.Reason.TheVariants as reasons
 use Rattle.entries.specs.declared.entry.Entry.{Entry}
 use Rattle.entries.specs.declared.entry.Entry.TheVariants.{Mode}
 use Rattle.fitch.specs.declared.mode.Mode.TheVariants.{Constructive}
 use Rattle.formulas.specs.Stores.{contents}
-use Rattle.scripts.specs.Runs.{Steps, premise_steps, act_steps, OfDerivation, Runs, Ran, RanOne}
+use Rattle.scripts.specs.Runs.{Steps, premise_steps, act_steps, Runs, Ran, RanOne}
 
 pub nothing_left : (s : Sheet) → Leaves s s
 nothing_left s = record { more = omega arith; store = refl; mode = refl; slice = refl; long = refl; rest = refl }
@@ -42,17 +39,10 @@ nothing_left_open o = record { premises = refl; sheet = nothing_left (sheet_in o
 pub leave_on_open : {o p q : Open} → LeavesOpen o p → LeavesOpen p q → LeavesOpen o q
 leave_on_open first second = record { premises = second.premises ∙ first.premises; sheet = leave_on first.sheet second.sheet }
 
-pub of_derivation : {P Q : ℕ → Refusal → Type 0} → ((n : ℕ) (e : Refusal) → P n e → Q n e) → (u : Fault) → OfDerivation P u → OfDerivation Q u
-of_derivation f TooLong p = p
-of_derivation f (At n (reasons.Form field)) p = p
-of_derivation f (At n (reasons.Formula refusal)) p = p
-of_derivation f (At n (reasons.Derivation e)) p = f n e p
-of_derivation f (At n (reasons.Algebra refusal)) p = p
-
 module _ (steps : Steps) (first : ℕ) (all : List (Said ℕ)) where
   -- after a history and its first n records, those that are left go on from here
   abbrev pub SoFar : History → ℕ → History → Type 0
-  SoFar before n h = (k : History) (e : Option (ℕ × Refusal)) → Runs steps h (first + n) (drop n all) k e → Runs steps before first all k e
+  SoFar before n h = (k : History) (e : Option Fault) → Runs steps h (first + n) (drop n all) k e → Runs steps before first all k e
 
   pub none_yet : (h : History) → SoFar h 0 h
   none_yet h k e runs = subst (λ n. Runs steps h n all k e) (plus_zero first) runs
@@ -68,19 +58,12 @@ module _ (steps : Steps) (first : ℕ) (all : List (Said ℕ)) where
   one_more before h n x here so_far accepted k e runs =
       so_far k e (subst (λ xs. Runs steps h (first + n) xs k e) (sym here) (Runs.next accepted (subst (λ i. Runs steps (steps.after h x) i (drop (n + 1) all) k e) (omega arith) runs)))
 
-  stopped : (before h : History) (n : ℕ) (x : Said ℕ) (e : Refusal) → At_hand n x → SoFar before n h → Refused (steps.checks h x) e → Runs steps before first all h (Some (first + n, e))
-  stopped before h n x e here so_far refused = so_far h (Some (first + n, e)) (subst (λ xs. Runs steps h (first + n) xs h (Some (first + n, e))) (sym here) (Runs.stop refused))
-
   pub all_run : (before h : History) (n : ℕ) → length all ≤ n → SoFar before n h → Runs steps before first all h None
   all_run before h n le so_far = so_far h None (subst (λ xs. Runs steps h (first + n) xs h None) (sym (drop_all n all le)) Runs.done)
 
   -- a fault of the record at hand is one of the run
   pub stopped_by : (Has : History → Type 0) (before h : History) (n : ℕ) (x : Said ℕ) (fault : Fault) → At_hand n x → SoFar before n h → RanOne steps Has h (first + n) x (Err fault) → Ran steps Has before first all (Err fault)
-  stopped_by Has before h n x fault here so_far ran = (
-    h,
-    of_derivation (λ i e p. subst (λ j. Runs steps before first all h (Some (j, e))) (sym p.0) (stopped before h n x e here so_far p.1)) fault ran.0,
-    ran.1,
-  )
+  stopped_by Has before h n x fault here so_far ran = (h, so_far h (Some fault) (subst (λ xs. Runs steps h (first + n) xs h (Some fault)) (sym here) (Runs.stop ran.0)), ran.1)
 
 -- what stands past the end of the records
 abbrev pub no_entry : Entry ℕ

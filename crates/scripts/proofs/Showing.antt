@@ -1,5 +1,5 @@
 -- A derivation shows one thing, or has one first fault.
-use Rattle.std.proofs.Common.{◌≡◌, ℕ, suc, ◌<◌, ◌⊎◌, inl, inr, ⊎_elim, List, [], ◌∷◌, map, length, get_or, take, ◌++◌, take-append-drop, Some, None, Option, Ok, Err, Result, refl, sym, ap, ap₂, ◌∙◌, subst, arith}
+use Rattle.std.proofs.Common.{◌≡◌, ℕ, suc, ◌<◌, inl, inr, List, [], ◌∷◌, map, length, get_or, take, ◌++◌, take-append-drop, Some, None, Option, Ok, Err, Result, refl, sym, ap, ap₂, ◌∙◌, subst, arith}
 use Rattle.std.proofs.lemmas.List.{get_or-take, length-take}
 use Rattle.grammar.specs.Contents.{formula_at, Once}
 use Rattle.grammar.specs.Formula.{Formula}
@@ -9,23 +9,21 @@ use Rattle.fitch.specs.Checks.{Refused}
 use Rattle.fitch.specs.Exact.{Concludes}
 use Rattle.fitch.specs.History.{History, Line, line_at}
 use Rattle.fitch.specs.declared.mode.Mode.{Mode}
-use Rattle.fitch.specs.declared.refusal.Refusal.{Refusal}
 use Rattle.fitch.proofs.Answering.{one_answers}
 use Rattle.ledger.specs.Sequents.{SequentOf, premise_places}
 use Rattle.ledger.specs.declared.sequent.Sequent.{Sequent}
 use Rattle.entries.specs.Entries.{Said}
 use Rattle.answers.specs.declared.checked.Checked.{Checked}
 use Rattle.answers.specs.declared.fault.Fault.{Fault}
-use Rattle.answers.specs.declared.fault.Fault.TheVariants.{TooLong, At}
-use Rattle.answers.specs.declared.fault.Reason.TheVariants as reasons
 use Rattle.fitch.specs.History.{count}
 use Rattle.fitch.specs.Records.{blank}
 use Rattle.fitch.specs.declared.rule.Reason.{Reason}
 use Rattle.ledger.specs.Recorded.{kept, no_line, Recorded}
 use Rattle.ledger.specs.declared.line.Line.{Line as ALine}
 use Rattle.scripts.specs.Proofs.{mode_of, Concluded, Derives, RunsAll, LinesOf}
+use Rattle.scripts.specs.Runs.{Stops}
 use Rattle.scripts.specs.Settled.{SameShown, SameAnswer, OneDerivation}
-use Rattle.scripts.proofs.Settling.{runs_all_once}
+use Rattle.scripts.proofs.Settling.{stops_once, runs_all_once}
 
 abbrev formula_or : Formula → Option Line → Formula
 formula_or d None = d
@@ -67,49 +65,27 @@ same_shown {fs = fs} n once c d p q = record {
   lines = p.2 ∙ sym q.2;
 }
 
-abbrev fault_at : ℕ → Refusal → Fault
-fault_at n e = At n (reasons.Derivation e)
-
-abbrev fault_or : Fault → Option (ℕ × Refusal) → Fault
+abbrev fault_or : Fault → Option Fault → Fault
 fault_or u None = u
-fault_or u (Some e) = fault_at e.0 e.1
+fault_or u (Some v) = v
 
-module _ (fs : List Formula) (slice : ℕ) (xs : List (Said ℕ)) where
-  -- what stops at a record, or is refused after the last
-  abbrev RefusedAt : History → ℕ → Refusal → Type 0
-  RefusedAt h n e = RunsAll fs slice xs h (Some (n, e)) ⊎ (RunsAll fs slice xs h None × (n ≡ length xs) × Refused (sequent_checks h) e)
+module _ (fs : List Formula) (slice : ℕ) (xs : List (Said ℕ)) (h k : History) where
+  never_both : (u : Fault) → RunsAll fs slice xs h None → RunsAll fs slice xs k (Some u) → ⊥
+  never_both u p q = let same = (runs_all_once fs slice xs h k None (Some u) p q).1 in cc
 
-  refused_at : (h : History) (u : Fault) → Derives fs slice xs h (Err u) → (n : ℕ) × (e : Refusal) × (u ≡ fault_at n e) × RefusedAt h n e
-  refused_at h TooLong p = absurd p
-  refused_at h (At n (reasons.Form field)) p = absurd p
-  refused_at h (At n (reasons.Formula refusal)) p = absurd p
-  refused_at h (At n (reasons.Derivation e)) p = (n, e, refl, p)
-  refused_at h (At n (reasons.Algebra refusal)) p = absurd p
+  shown_or_refused : (c : Checked) (u : Fault) → Derives fs slice xs h (Ok c) → Derives fs slice xs k (Err u) → ⊥
+  shown_or_refused c u p (inl stopped) = never_both u p.0 stopped
+  shown_or_refused c u p (inr late) =
+      let same = (runs_all_once fs slice xs h k None None p.0 late.0).0 in
+      (one_answers.sequent h).apart late.1.0 p.1.0 (subst (λ j. Refused (sequent_checks j) late.1.0) (sym same) late.1.1)
 
-  module _ (h k : History) where
-    never_both : (n : ℕ) (e : Refusal) → RunsAll fs slice xs h None → RunsAll fs slice xs k (Some (n, e)) → ⊥
-    never_both n e p q = let same = (runs_all_once fs slice xs h k None (Some (n, e)) p q).1 in cc
-
-    shown_or_refused : (c : Checked) (u : Fault) → Derives fs slice xs h (Ok c) → Derives fs slice xs k (Err u) → ⊥
-    shown_or_refused c u p q =
-        let r = refused_at k u q in
-        ⊎_elim (λ stops. never_both r.0 r.1 p.0 stops)
-        (λ late. (one_answers.sequent h).apart r.1 p.1.0 (subst (λ j. Refused (sequent_checks j) r.1) (sym (runs_all_once fs slice xs h k None None p.0 late.0).0) late.2)) r.3
-
-    one_refusal : (n m : ℕ) (e d : Refusal) → RefusedAt h n e → RefusedAt k m d → (h ≡ k) × (fault_at n e ≡ fault_at m d)
-    one_refusal n m e d (inl p) (inl q) = let same = runs_all_once fs slice xs h k (Some (n, e)) (Some (m, d)) p q in (same.0, ap (fault_or TooLong) same.1)
-    one_refusal n m e d (inl p) (inr q) = let same = (runs_all_once fs slice xs h k (Some (n, e)) None p q.0).1 in absurd (cc)
-    one_refusal n m e d (inr p) (inl q) = absurd (never_both m d p.0 q)
-    one_refusal n m e d (inr p) (inr q) =
-        let same = (runs_all_once fs slice xs h k None None p.0 q.0).0 in
-        (same, ap₂ fault_at (p.1 ∙ sym q.1) ((one_answers.sequent h).single e d p.2 (subst (λ j. Refused (sequent_checks j) d) (sym same) q.2)))
-
-    same_fault : (u v : Fault) → Derives fs slice xs h (Err u) → Derives fs slice xs k (Err v) → (h ≡ k) × (u ≡ v)
-    same_fault u v p q =
-        let r = refused_at h u p in
-        let t = refused_at k v q in
-        let one = one_refusal r.0 t.0 r.1 t.1 r.3 t.3 in
-        (one.0, r.2 ∙ one.1 ∙ sym t.2)
+  same_fault : (u v : Fault) → Derives fs slice xs h (Err u) → Derives fs slice xs k (Err v) → (h ≡ k) × (u ≡ v)
+  same_fault u v (inl p) (inl q) = let same = runs_all_once fs slice xs h k (Some u) (Some v) p q in (same.0, ap (fault_or u) same.1)
+  same_fault u v (inl p) (inr q) = let same = (runs_all_once fs slice xs h k (Some u) None p q.0).1 in absurd (cc)
+  same_fault u v (inr p) (inl q) = absurd (never_both v p.0 q)
+  same_fault u v (inr p) (inr q) =
+      let same = (runs_all_once fs slice xs h k None None p.0 q.0).0 in
+      (same, stops_once (one_answers.sequent h) u v p.1 (subst (λ j. Stops (length xs) (sequent_checks j) v) (sym same) q.1))
 
 derives_once : (fs : List Formula) (slice : ℕ) (xs : List (Said ℕ)) (h k : History) (a b : Result Checked Fault) → Once fs → Derives fs slice xs h a → Derives fs slice xs k b → (h ≡ k) × SameAnswer a b
 derives_once fs slice xs h k (Ok c) (Ok d) once p q =

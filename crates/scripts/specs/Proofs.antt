@@ -3,18 +3,17 @@ use Rattle.std.specs.Prelude.{◌≡◌, ℕ, ◌+◌, ◌⊎◌, Bool, true, fa
 use Rattle.std.specs.List.{before_first, position_or_len}
 use Rattle.grammar.specs.Formula.{Formula}
 use Rattle.fitch.specs.Calls.{sequent_checks}
-use Rattle.fitch.specs.Checks.{Accepted, Refused}
+use Rattle.fitch.specs.Checks.{Accepted}
 use Rattle.fitch.specs.History.{History, begin, count}
 use Rattle.fitch.specs.declared.mode.Mode.{Mode}
 use Rattle.fitch.specs.declared.mode.Mode.TheVariants.{Constructive}
-use Rattle.fitch.specs.declared.refusal.Refusal.{Refusal}
 use Rattle.ledger.specs.Recorded.{Recorded}
 use Rattle.ledger.specs.Sequents.{SequentOf}
 use Rattle.ledger.specs.declared.line.Line.{Line}
 use Rattle.entries.specs.Entries.{Said}
 use Rattle.answers.specs.declared.checked.Checked.{Checked}
 use Rattle.answers.specs.declared.fault.Fault.{Fault}
-use Rattle.scripts.specs.Runs.{premise_steps, act_steps, Runs, OfDerivation}
+use Rattle.scripts.specs.Runs.{premise_steps, act_steps, Stops, Runs}
 
 -- the records that end the gathering
 abbrev pub acts : Said ℕ → Bool
@@ -40,23 +39,23 @@ abbrev pub back : List (Said ℕ) → List (Said ℕ)
 back xs = drop (position_or_len acts xs) xs
 
 -- after the premises, which reached h: the others, unless a fault d stopped the premises
-abbrev pub GoesOn : List Formula → ℕ → List (Said ℕ) → History → Option (ℕ × Refusal) → History → Option (ℕ × Refusal) → Type 0
+abbrev pub GoesOn : List Formula → ℕ → List (Said ℕ) → History → Option Fault → History → Option Fault → Type 0
 GoesOn fs slice xs h None k e = Runs (act_steps (mode_of xs) fs slice) (begin ∷ h) (length (front xs) + 1) (back xs) k e
 GoesOn fs slice xs h (Some d) k e = (k ≡ h) × (e ≡ Some d)
 
 -- all records, numbered from 1, the premises and then the others: the history that they reach, and the fault that stopped them, if one did
-abbrev pub RunsAll : List Formula → ℕ → List (Said ℕ) → History → Option (ℕ × Refusal) → Type 0
-RunsAll fs slice xs k e = (h : History) × (d : Option (ℕ × Refusal)) × Runs (premise_steps fs slice) [] 1 (front xs) h d × GoesOn fs slice xs h d k e
+abbrev pub RunsAll : List Formula → ℕ → List (Said ℕ) → History → Option Fault → Type 0
+RunsAll fs slice xs k e = (h : History) × (d : Option Fault) × Runs (premise_steps fs slice) [] 1 (front xs) h d × GoesOn fs slice xs h d k e
 
 -- what a history of so many records shows, or why it shows nothing
 abbrev pub Concluded : Mode → List Formula → History → ℕ → Result Checked Fault → Type 0
 Concluded mode fs h records (Ok c) = Accepted (sequent_checks h) × SequentOf mode fs h c.sequent × (c.lines ≡ count h)
-Concluded mode fs h records (Err fault) = OfDerivation (λ n e. (n ≡ records) × Refused (sequent_checks h) e) fault
+Concluded mode fs h records (Err fault) = Stops records (sequent_checks h) fault
 
 -- the records reach h, and show this, or have this first fault: of a record, or of the sequent, which is told at the last record
 abbrev pub Derives : List Formula → ℕ → List (Said ℕ) → History → Result Checked Fault → Type 0
 Derives fs slice xs h (Ok c) = RunsAll fs slice xs h None × Concluded (mode_of xs) fs h (length xs) (Ok c)
-Derives fs slice xs h (Err fault) = OfDerivation (λ n e. RunsAll fs slice xs h (Some (n, e)) ⊎ (RunsAll fs slice xs h None × (n ≡ length xs) × Refused (sequent_checks h) e)) fault
+Derives fs slice xs h (Err fault) = RunsAll fs slice xs h (Some fault) ⊎ (RunsAll fs slice xs h None × Concluded (mode_of xs) fs h (length xs) (Err fault))
 
 -- the line records after a derivation whose history is h: its lines first, and the others as they were
 pub record LinesOf (fs : List Formula) (before after : List Line) (h : History) : Type 0 where

@@ -57,24 +57,27 @@ steps_of g = premise_steps (formulas_of (sheet_of g)) (length g.lines.now)
 abbrev pub steps_in : Open → Steps
 steps_in o = act_steps (mode_in o) (formulas_of (sheet_in o)) (length o.lines.now)
 
--- records from number n on, after h: the history that they reach, and the fault that stopped them, if one did, with its record's number
-pub data Runs (steps : Steps) : History → ℕ → List (Said ℕ) → History → Option (ℕ × Refusal) → Type 0 where
-  done : {h : History} {n : ℕ} → Runs steps h n [] h None
-  stop : {h : History} {n : ℕ} {x : Said ℕ} {xs : List (Said ℕ)} {e : Refusal} → Refused (steps.checks h x) e → Runs steps h n (x ∷ xs) h (Some (n, e))
-  next : {h k : History} {n : ℕ} {x : Said ℕ} {xs : List (Said ℕ)} {e : Option (ℕ × Refusal)}
-      → Accepted (steps.checks h x) → Runs steps (steps.after h x) (n + 1) xs k e → Runs steps h n (x ∷ xs) k e
+-- a refusal of the call that a record stands for, as the fault of that record
+abbrev pub refused_at : ℕ → Refusal → Fault
+refused_at n e = At n (reasons.Derivation e)
 
--- a fault of the derivation at a record
-abbrev pub OfDerivation : (ℕ → Refusal → Type 0) → Fault → Type 0
-OfDerivation P (At n (reasons.Derivation refusal)) = P n refusal
-OfDerivation P _ = ⊥
+-- the checks of record n refuse, and this is the fault
+abbrev pub Stops : ℕ → List Check → Fault → Type 0
+Stops n cs fault = (e : Refusal) × Refused cs e × (fault ≡ refused_at n e)
+
+-- records from number n on, after h: the history that they reach, and the fault that stopped them, if one did
+pub data Runs (steps : Steps) : History → ℕ → List (Said ℕ) → History → Option Fault → Type 0 where
+  done : {h : History} {n : ℕ} → Runs steps h n [] h None
+  stop : {h : History} {n : ℕ} {x : Said ℕ} {xs : List (Said ℕ)} {fault : Fault} → Stops n (steps.checks h x) fault → Runs steps h n (x ∷ xs) h (Some fault)
+  next : {h k : History} {n : ℕ} {x : Said ℕ} {xs : List (Said ℕ)} {e : Option Fault}
+      → Accepted (steps.checks h x) → Runs steps (steps.after h x) (n + 1) xs k e → Runs steps h n (x ∷ xs) k e
 
 -- one record, as the code runs it: the state has then the history after it, or the one before it, where the fault is its refusal
 abbrev pub RanOne : Steps → (History → Type 0) → History → ℕ → Said ℕ → Result Unit Fault → Type 0
 RanOne steps Has h n x (Ok u) = Accepted (steps.checks h x) × Has (steps.after h x)
-RanOne steps Has h n x (Err fault) = OfDerivation (λ i e. (i ≡ n) × Refused (steps.checks h x) e) fault × Has h
+RanOne steps Has h n x (Err fault) = Stops n (steps.checks h x) fault × Has h
 
 -- records, as the code runs them: the state has then the history that they reach
 abbrev pub Ran : Steps → (History → Type 0) → History → ℕ → List (Said ℕ) → Result Unit Fault → Type 0
 Ran steps Has h n xs (Ok u) = (k : History) × Runs steps h n xs k None × Has k
-Ran steps Has h n xs (Err fault) = (k : History) × OfDerivation (λ i e. Runs steps h n xs k (Some (i, e))) fault × Has k
+Ran steps Has h n xs (Err fault) = (k : History) × Runs steps h n xs k (Some fault) × Has k

@@ -3,7 +3,6 @@ use Rattle.std.specs.Prelude.{◌≡◌, ℕ, List, Ok, Err, Option, Result}
 use Rattle.grammar.specs.Contents.{Once}
 use Rattle.grammar.specs.Formula.{Formula}
 use Rattle.fitch.specs.History.{History}
-use Rattle.fitch.specs.declared.refusal.Refusal.{Refusal}
 use Rattle.ledger.specs.Sequents.{premise_places}
 use Rattle.ledger.specs.declared.line.Line.{Line}
 use Rattle.entries.specs.Entries.{Said}
@@ -27,7 +26,7 @@ SameAnswer (Err e) (Err d) = e ≡ d
 -- records reach one history, stopped by one fault or by none; and over formulas that are held once they show one thing, or have one first fault, and leave one slice
 pub record OneDerivation : Type 0 where
   pub runs :
-      (fs : List Formula) (slice : ℕ) (xs : List (Said ℕ)) (h k : History) (d e : Option (ℕ × Refusal))
+      (fs : List Formula) (slice : ℕ) (xs : List (Said ℕ)) (h k : History) (d e : Option Fault)
       → RunsAll fs slice xs h d → RunsAll fs slice xs k e → (h ≡ k) × (d ≡ e)
   pub answers :
       (fs : List Formula) (slice : ℕ) (xs : List (Said ℕ)) (h k : History) (a b : Result Checked Fault)
