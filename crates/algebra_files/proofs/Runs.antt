@@ -81,9 +81,9 @@ module _ (es : List (Entry ℕ)) (only : after_pairs (map stored es) ≡ []) whe
       a_pair (get_or es k d) (get_or (pairs_in (map stored es)) k (0, 0)) (ap stored (get_or_default es k d Close within) ∙ pair_at k within) not_pair
 
 -- whether an entry gives an element to a letter
-gives_said : (letter : ℕ) (e : Entry ℕ) (v : ℕ × ℕ) → stored e ≡ value_said v → gives letter e ≡ eqb v.0 letter
-gives_said letter (Value a e) v is = let same : a ≡ v.0 = cc in ap (λ x. eqb x letter) same
-gives_said letter e v is = cc
+gives_said : (byte : ℕ) (e : Entry ℕ) (v : ℕ × ℕ) → stored e ≡ value_said v → gives byte e ≡ eqb v.0 byte
+gives_said byte (Value a e) v is = let same : a ≡ v.0 = cc in ap (λ x. eqb x byte) same
+gives_said byte e v is = cc
 
 module _ (es : List (Entry ℕ)) (only : after_values (map stored es) ≡ []) where
   values_said : map stored es ≡ map value_said (values_in (map stored es))
@@ -95,24 +95,24 @@ module _ (es : List (Entry ℕ)) (only : after_values (map stored es) ≡ []) wh
   pub value_at : (k : ℕ) → k < length es → stored (get_or es k Close) ≡ value_said (get_or (values_in (map stored es)) k (0, 0))
   value_at = same_at value_said es (values_in (map stored es)) values_said
 
-  gives_forth : (letter k : ℕ) → k < length es → gives letter (get_or es k Close) ≡ true → Gives (values_in (map stored es)) k letter
-  gives_forth letter k within gives = eqb-true _ letter (sym (gives_said letter (get_or es k Close) (get_or (values_in (map stored es)) k (0, 0)) (value_at k within)) ∙ gives)
+  gives_forth : (byte k : ℕ) → k < length es → gives byte (get_or es k Close) ≡ true → Gives (values_in (map stored es)) k byte
+  gives_forth byte k within gives = eqb-true _ byte (sym (gives_said byte (get_or es k Close) (get_or (values_in (map stored es)) k (0, 0)) (value_at k within)) ∙ gives)
 
-  gives_back : (letter k : ℕ) → k < length es → Gives (values_in (map stored es)) k letter → gives letter (get_or es k Close) ≡ true
-  gives_back letter k within given = gives_said letter (get_or es k Close) (get_or (values_in (map stored es)) k (0, 0)) (value_at k within) ∙ eq-eqb _ letter given
+  gives_back : (byte k : ℕ) → k < length es → Gives (values_in (map stored es)) k byte → gives byte (get_or es k Close) ≡ true
+  gives_back byte k within given = gives_said byte (get_or es k Close) (get_or (values_in (map stored es)) k (0, 0)) (value_at k within) ∙ eq-eqb _ byte given
 
   pub last_of :
-      (letter : ℕ) (r : Option ℕ)
-      → MatchOption r ((k : ℕ) → k < length es → gives letter (get_or es k Close) ≡ true → ⊥)
-      (λ k. (k < length es) × (gives letter (get_or es k Close) ≡ true) × ((j : ℕ) → k < j → j < length es → gives letter (get_or es j Close) ≡ true → ⊥))
-      → MatchOption r ((k : ℕ) → k < length (values_in (map stored es)) → Gives (values_in (map stored es)) k letter → ⊥) (LastFor (values_in (map stored es)) letter)
-  last_of letter None none = λ k within given.
+      (byte : ℕ) (r : Option ℕ)
+      → MatchOption r ((k : ℕ) → k < length es → gives byte (get_or es k Close) ≡ true → ⊥)
+      (λ k. (k < length es) × (gives byte (get_or es k Close) ≡ true) × ((j : ℕ) → k < j → j < length es → gives byte (get_or es j Close) ≡ true → ⊥))
+      → MatchOption r ((k : ℕ) → k < length (values_in (map stored es)) → Gives (values_in (map stored es)) k byte → ⊥) (LastFor (values_in (map stored es)) byte)
+  last_of byte None none = λ k within given.
       let short : k < length es = omega (arith, within, values_length) in
-      none k short (gives_back letter k short given)
-  last_of letter (Some k) h = record {
+      none k short (gives_back byte k short given)
+  last_of byte (Some k) h = record {
     within = omega (arith, h.0, values_length);
-    here = gives_forth letter k h.0 h.1;
-    after = λ j later within given. let short : j < length es = omega (arith, within, values_length) in h.2 j later short (gives_back letter j short given);
+    here = gives_forth byte k h.0 h.1;
+    after = λ j later within given. let short : j < length es = omega (arith, within, values_length) in h.2 j later short (gives_back byte j short given);
   }
 
 -- what the last value for a letter gives
@@ -120,14 +120,14 @@ given_said : (e : Entry ℕ) (v : ℕ × ℕ) → stored e ≡ value_said v → 
 given_said (Value a e) v is = cc
 given_said e v is = cc
 
-pub last_within : (es : List (Entry ℕ)) (letter k : ℕ) → after_values (map stored es) ≡ [] → LastFor (values_in (map stored es)) letter k → k < length es
-last_within es letter k only last = omega (arith, last.within, values_length es only)
+pub last_within : (es : List (Entry ℕ)) (byte k : ℕ) → after_values (map stored es) ≡ [] → LastFor (values_in (map stored es)) byte k → k < length es
+last_within es byte k only last = omega (arith, last.within, values_length es only)
 
 pub element_given :
-    (es : List (Entry ℕ)) (bottom letter k e : ℕ) (d : Entry ℕ) → after_values (map stored es) ≡ [] → LastFor (values_in (map stored es)) letter k → e ≡ given_by (get_or es k d)
-    → ElementFor bottom (values_in (map stored es)) letter e
-element_given es bottom letter k e d only last is =
-    let within : k < length es = last_within es letter k only last in
+    (es : List (Entry ℕ)) (bottom byte k e : ℕ) (d : Entry ℕ) → after_values (map stored es) ≡ [] → LastFor (values_in (map stored es)) byte k → e ≡ given_by (get_or es k d)
+    → ElementFor bottom (values_in (map stored es)) byte e
+element_given es bottom byte k e d only last is =
+    let within : k < length es = last_within es byte k only last in
     let here : e ≡ (get_or (values_in (map stored es)) k (0, 0)).1 =
     is ∙ (ap given_by (get_or_default es k d Close within) ∙ given_said (get_or es k Close) (get_or (values_in (map stored es)) k (0, 0)) (value_at es only k within)) in
-    subst (ElementFor bottom (values_in (map stored es)) letter) (sym here) (ElementFor.last k last)
+    subst (ElementFor bottom (values_in (map stored es)) byte) (sym here) (ElementFor.last k last)

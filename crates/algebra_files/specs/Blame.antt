@@ -24,9 +24,9 @@ abbrev pub SmallLetterIn : Unweighable → Type 0
 SmallLetterIn Unstored = Unit {0}
 SmallLetterIn (NotEvaluated refusal) = SmallLetter refusal
 
--- the value at index k is the last for the letter, if there is one
+-- the value at index k is the last for the letter of this byte, if there is one
 abbrev pub Latest : List (ℕ × ℕ) → ℕ → ℕ → Type 0
-Latest vs letter k = ((j : ℕ) → j < length vs → Gives vs j letter → ⊥) ⊎ LastFor vs letter k
+Latest vs byte k = ((j : ℕ) → j < length vs → Gives vs j byte → ⊥) ⊎ LastFor vs byte k
 
 abbrev pub ValueBlamed : Refusal → List (ℕ × ℕ) → ℕ → Type 0
 ValueBlamed WorldsOutOfRange vs k = k ≡ 0

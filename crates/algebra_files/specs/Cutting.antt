@@ -19,10 +19,10 @@ abbrev pub is_value : Entry ℕ → Bool
 is_value (Value a e) = true
 is_value _ = false
 
--- the entry gives an element to a letter
+-- the entry gives an element to a letter, by its byte
 abbrev pub gives : ℕ → Entry ℕ → Bool
-gives letter (Value a e) = a == letter
-gives letter _ = false
+gives byte (Value a e) = a == byte
+gives byte _ = false
 
 -- the element that an entry gives
 abbrev pub given_by : Entry ℕ → ℕ

@@ -34,7 +34,7 @@ blamed NotMember = 0
 blamed ShortBuffer = 0
 blamed (LetterNotMember letter) = 0
 
--- the fault of values from record n on: the first letter with no member, at its last value
+-- the fault of values from record n on: the first letter with no member, counted from 1, at its last value
 pub data LetterFault (m : Meaning) (vs : List (ℕ × ℕ)) (n : ℕ) : ℕ → Refusal → Type 0 where
   stranger :
       (v : List ℕ) (letter k : ℕ) → Elements m.bottom vs v → FirstStranger m v letter → LastFor vs (96 + letter) k

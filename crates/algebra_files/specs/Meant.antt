@@ -37,18 +37,18 @@ pub record Means (f : File) (m : Meaning) : Type 0 where
   pub layered : Layered below f.layer m
 
 abbrev pub Gives : List (ℕ × ℕ) → ℕ → ℕ → Type 0
-Gives vs k letter = (slice_index_or vs k (0, 0)).0 ≡ letter
+Gives vs k byte = (slice_index_or vs k (0, 0)).0 ≡ byte
 
--- the value at index k is the last for a letter
-pub record LastFor (vs : List (ℕ × ℕ)) (letter : ℕ) (k : ℕ) : Type 0 where
+-- the value at index k is the last for a letter, by its byte
+pub record LastFor (vs : List (ℕ × ℕ)) (byte : ℕ) (k : ℕ) : Type 0 where
   pub within : k < length vs
-  pub here : Gives vs k letter
-  pub after : (j : ℕ) → k < j → j < length vs → Gives vs j letter → ⊥
+  pub here : Gives vs k byte
+  pub after : (j : ℕ) → k < j → j < length vs → Gives vs j byte → ⊥
 
--- the element of a letter: what its last value gives it, or the bottom where no value is for it
-pub data ElementFor (bottom : ℕ) (vs : List (ℕ × ℕ)) (letter : ℕ) : ℕ → Type 0 where
-  none : ((k : ℕ) → k < length vs → Gives vs k letter → ⊥) → ElementFor bottom vs letter bottom
-  last : (k : ℕ) → LastFor vs letter k → ElementFor bottom vs letter (slice_index_or vs k (0, 0)).1
+-- the element of a letter, by its byte: what its last value gives it, or the bottom where no value is for it
+pub data ElementFor (bottom : ℕ) (vs : List (ℕ × ℕ)) (byte : ℕ) : ℕ → Type 0 where
+  none : ((k : ℕ) → k < length vs → Gives vs k byte → ⊥) → ElementFor bottom vs byte bottom
+  last : (k : ℕ) → LastFor vs byte k → ElementFor bottom vs byte (slice_index_or vs k (0, 0)).1
 
 -- the 26 elements of the letters, from a on
 pub record Elements (bottom : ℕ) (vs : List (ℕ × ℕ)) (v : List ℕ) : Type 0 where

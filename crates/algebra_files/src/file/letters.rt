@@ -9,11 +9,11 @@ use std::array;
 
 const LETTERS: usize = 26;
 
-// Whether an entry gives an element to a letter.
-fn gives(entry: &Entry<usize>, letter: usize) -> bool
-    ensures { result ≡ gives letter entry.now }
+// Whether an entry gives an element to the letter of this byte.
+fn gives(entry: &Entry<usize>, byte: usize) -> bool
+    ensures { result ≡ gives byte entry.now }
 {
-    matches!(entry, Entry::Value(byte, _) if *byte as usize == letter)
+    matches!(entry, Entry::Value(letter, _) if *letter as usize == byte)
 }
 
 // The element that a value gives.
@@ -27,18 +27,18 @@ fn element_in(entry: &Entry<usize>) -> u32
 }
 
 impl Values<'_> {
-    // Where the last value for a letter stands.
-    pub(crate) fn last_for(&self, letter: usize) -> Option<usize>
-        ensures { MatchOption result ((k : ℕ) → k < length (values_of self.now) → Gives (values_of self.now) k letter → ⊥) (λ k. LastFor (values_of self.now) letter k) }
+    // Where the last value for the letter of this byte stands.
+    pub(crate) fn last_for(&self, byte: usize) -> Option<usize>
+        ensures { MatchOption result ((k : ℕ) → k < length (values_of self.now) → Gives (values_of self.now) k byte → ⊥) (λ k. LastFor (values_of self.now) byte k) }
     {
-        self.entries.iter().rposition(|entry| gives(entry, letter))
+        self.entries.iter().rposition(|entry| gives(entry, byte))
     }
 
-    // What the last value for a letter gives it, or else the bottom.
-    fn element(&self, letter: usize, bottom: u32) -> u32
-        ensures { ElementFor bottom (values_of self.now) letter result }
+    // What the last value for the letter of this byte gives it, or else the bottom.
+    fn element(&self, byte: usize, bottom: u32) -> u32
+        ensures { ElementFor bottom (values_of self.now) byte result }
     {
-        match self.last_for(letter) {
+        match self.last_for(byte) {
             Some(k) => element_in(&self.entries[k]),
             None => bottom,
         }
