@@ -5,7 +5,8 @@ use Rattle.grammar.specs.Formula.{Formula}
 use Rattle.grammar.specs.Writing.{text_at}
 use Rattle.ledger.specs.Sequents.{premise_places}
 use Rattle.verdicts.specs.declared.verdict.Verdict.{Verdict}
-use Rattle.answers.specs.Rows.{row, mode_letter, checked_row, verdict_row, fault_row}
+use Rattle.answers.specs.Rows.{row, checked_row, verdict_row, fault_row}
+use Rattle.entries.specs.Kinds.{mode_letter}
 use Rattle.answers.specs.declared.checked.Checked.{Checked}
 use Rattle.answers.specs.declared.unanswered.Unanswered.{Unanswered}
 use Rattle.answers.specs.declared.unanswered.Unanswered.TheVariants as answers

@@ -3,10 +3,9 @@ use Rattle.std.specs.Prelude.{ℕ, if◌then◌else◌, List, [], ◌∷◌, ◌
 use Rattle.std.specs.Fmt.{decimal}
 use Rattle.grammar.specs.Formula.{Formula}
 use Rattle.grammar.specs.Writing.{text_at}
-use Rattle.fitch.specs.declared.mode.Mode.{Mode}
-use Rattle.fitch.specs.declared.mode.Mode.TheVariants.{Constructive, Classical}
 use Rattle.ledger.specs.Sequents.{premise_places}
 use Rattle.verdicts.specs.declared.verdict.Verdict.{Verdict}
+use Rattle.entries.specs.Kinds.{mode_letter}
 use Rattle.answers.specs.Faults.{record_of, layer_of, number_of, place_of}
 use Rattle.answers.specs.declared.checked.Checked.{Checked}
 use Rattle.answers.specs.declared.fault.Fault.{Fault}
@@ -22,10 +21,6 @@ after_tabs (f ∷ fs) = 9 ∷ f ++ after_tabs fs
 abbrev pub row : List (List ℕ) → List ℕ
 row [] = 10 ∷ []
 row (f ∷ fs) = f ++ after_tabs fs
-
-abbrev pub mode_letter : Mode → List ℕ
-mode_letter Constructive = codes "I"
-mode_letter Classical = codes "C"
 
 abbrev pub layer_letter : Layer → List ℕ
 layer_letter layers.Text = codes "T"

@@ -41,12 +41,13 @@ all_rules =
 abbrev pub rule_named : List ℕ → Option Rule
 rule_named s = found (λ r. bytes_eq (name_of r) s) all_rules
 
-abbrev pub letter_of : Mode → List ℕ
-letter_of Constructive = codes "I"
-letter_of Classical = codes "C"
+-- the letter that stands for a mode
+abbrev pub mode_letter : Mode → List ℕ
+mode_letter Constructive = codes "I"
+mode_letter Classical = codes "C"
 
 abbrev pub mode_named : List ℕ → Option Mode
-mode_named s = found (λ m. bytes_eq (letter_of m) s) (Constructive ∷ Classical ∷ [])
+mode_named s = found (λ m. bytes_eq (mode_letter m) s) (Constructive ∷ Classical ∷ [])
 
 -- a letter from a to z, by its byte
 abbrev pub letter : List ℕ → Option ℕ

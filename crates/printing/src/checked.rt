@@ -2,7 +2,8 @@
 ghost use Rattle.std.specs.Prelude.{◌≡◌};
 ghost use Rattle.formulas.specs.Stores.{contents};
 ghost use Rattle.verdicts.specs.Weighing.{Stored};
-ghost use Rattle.answers.specs.Rows.{mode_letter, checked_row};
+ghost use Rattle.answers.specs.Rows.{checked_row};
+ghost use Rattle.entries.specs.Kinds.{mode_letter};
 ghost use Rattle.printing.specs.Printing.{Printed};
 
 use crate::ending::Ending;
