@@ -5,16 +5,16 @@ use Rattle.grammar.specs.declared.refusal.Refusal.{Refusal}
 use Rattle.grammar.specs.declared.refusal.Refusal.TheVariants.{FewRecords, LongText, NotFormula, DeepFormula, RecordsWanting, ShortBuffer, NotStored}
 
 -- why a line is not written into a buffer: some place that it tells of holds no formula, or else the line is too long
-abbrev pub Unprinted : Type 0 → List ℕ → List ℕ → Refusal → Type 0
-Unprinted Stored line buffer FewRecords = ⊥
-Unprinted Stored line buffer LongText = ⊥
-Unprinted Stored line buffer (NotFormula i) = ⊥
-Unprinted Stored line buffer DeepFormula = ⊥
-Unprinted Stored line buffer RecordsWanting = ⊥
-Unprinted Stored line buffer ShortBuffer = Stored × (length buffer < length line)
-Unprinted Stored line buffer NotStored = Stored → ⊥
+abbrev pub NotPrinted : Type 0 → List ℕ → List ℕ → Refusal → Type 0
+NotPrinted Stored line buffer FewRecords = ⊥
+NotPrinted Stored line buffer LongText = ⊥
+NotPrinted Stored line buffer (NotFormula i) = ⊥
+NotPrinted Stored line buffer DeepFormula = ⊥
+NotPrinted Stored line buffer RecordsWanting = ⊥
+NotPrinted Stored line buffer ShortBuffer = Stored × (length buffer < length line)
+NotPrinted Stored line buffer NotStored = Stored → ⊥
 
 -- the buffer as it was and as it is, and the answer: the line's length, or a refusal that changes nothing
 abbrev pub Printed : Type 0 → List ℕ → List ℕ → List ℕ → Result ℕ Refusal → Type 0
 Printed Stored line before after (Ok n) = Stored × (n ≡ length line) × (n ≤ length before) × (after ≡ put before 0 line)
-Printed Stored line before after (Err refusal) = Unprinted Stored line before refusal × (after ≡ before)
+Printed Stored line before after (Err refusal) = NotPrinted Stored line before refusal × (after ≡ before)
