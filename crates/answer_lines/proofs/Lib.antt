@@ -1,2 +1,3 @@
 pub mod Telling
 pub mod Settling
+pub mod Always

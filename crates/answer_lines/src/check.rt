@@ -1,5 +1,8 @@
 // The line for a proof file.
+ghost use Rattle.std.specs.Prelude.{◌≤◌, length, IsOk};
 ghost use Rattle.formulas.specs.Stores.{capacity, contents, OthersStay};
+ghost use Rattle.records.specs.Pieces.{records};
+ghost use Rattle.printing.specs.Limits.{longest_line};
 ghost use Rattle.answer_lines.specs.Answered.{CheckedLine};
 
 use crate::print::print_checked;
@@ -19,6 +22,7 @@ pub fn check_line(
 ) -> Result<usize, Unprinted>
     ensures line { CheckedLine (capacity store.old) input.now (contents store.old) (contents store.new) entries.old entries.new lines.old lines.new buffer.old buffer.new result }
     ensures stay { OthersStay store.old store.new }
+    ensures always { length (records input.now) ≤ length entries.old → longest_line ≤ length buffer.old → IsOk result }
 {
     let answer = check(store, entries, lines, input);
     print_checked(answer, store, buffer)

@@ -1,5 +1,7 @@
 // Prints an answer.
+ghost use Rattle.std.specs.Prelude.{◌≡◌, ◌≤◌, length, Err};
 ghost use Rattle.formulas.specs.Stores.{contents};
+ghost use Rattle.printing.specs.Limits.{longest_line};
 ghost use Rattle.answer_lines.specs.Lines.{CanBeTold, CheckedCanBeTold, VerdictCanBeTold, UnansweredPrinted, CheckedPrinted, VerdictPrinted};
 
 use crate::unprinted::Unprinted;
@@ -14,7 +16,8 @@ use verdicts::verdict::Verdict;
 // The line of a fault; or which slice was too short for an answer.
 fn print_unanswered(why: Unanswered, buffer: &mut [u8]) -> Result<usize, Unprinted>
     requires { CanBeTold why }
-    ensures { UnansweredPrinted why buffer.old buffer.new result }
+    ensures printed { UnansweredPrinted why buffer.old buffer.new result }
+    ensures room { longest_line ≤ length buffer.old → result ≡ Err Unprinted.ShortLine → ⊥ }
 {
     match why {
         Unanswered::Faulty(fault) => write_fault(&fault, buffer).map_err(|_| Unprinted::ShortLine),
@@ -29,7 +32,8 @@ pub(crate) fn print_checked(
     buffer: &mut [u8],
 ) -> Result<usize, Unprinted>
     requires { CheckedCanBeTold (contents store.now) answer }
-    ensures { CheckedPrinted (contents store.now) answer buffer.old buffer.new result }
+    ensures printed { CheckedPrinted (contents store.now) answer buffer.old buffer.new result }
+    ensures room { longest_line ≤ length buffer.old → result ≡ Err Unprinted.ShortLine → ⊥ }
 {
     match answer {
         Ok(checked) => write_checked(&checked, store, buffer).map_err(|_| Unprinted::ShortLine),
@@ -42,7 +46,8 @@ pub(crate) fn print_verdict(
     buffer: &mut [u8],
 ) -> Result<usize, Unprinted>
     requires { VerdictCanBeTold answer }
-    ensures { VerdictPrinted answer buffer.old buffer.new result }
+    ensures printed { VerdictPrinted answer buffer.old buffer.new result }
+    ensures room { longest_line ≤ length buffer.old → result ≡ Err Unprinted.ShortLine → ⊥ }
 {
     match answer {
         Ok(verdict) => write_verdict(&verdict, buffer).map_err(|_| Unprinted::ShortLine),

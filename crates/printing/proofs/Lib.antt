@@ -1,3 +1,4 @@
 pub mod Fronts
 pub mod Places
 pub mod Settling
+pub mod Room

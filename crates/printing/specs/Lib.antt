@@ -1,3 +1,4 @@
 pub mod Printing
 pub mod Endings
 pub mod Settled
+pub mod Limits

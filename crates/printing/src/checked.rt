@@ -1,9 +1,10 @@
 // The line of an accepted proof file.
-ghost use Rattle.std.specs.Prelude.{◌≡◌};
+ghost use Rattle.std.specs.Prelude.{◌≡◌, ◌≤◌, length};
 ghost use Rattle.formulas.specs.Stores.{contents};
 ghost use Rattle.verdicts.specs.Weighing.{Stored};
 ghost use Rattle.answers.specs.Rows.{checked_row};
 ghost use Rattle.entries.specs.Kinds.{mode_letter};
+ghost use Rattle.printing.specs.Limits.{longest_line};
 ghost use Rattle.printing.specs.Printing.{Printed};
 
 use crate::ending::Ending;
@@ -26,7 +27,8 @@ fn mode_letter(mode: Mode) -> [u8; 1]
 
 // Writes the line of what a proof file shows to the front of a buffer, and answers its length.
 pub fn write_checked(checked: &Checked, store: &Store, buffer: &mut [u8]) -> Result<usize, Refusal>
-    ensures { Printed (Stored (contents store.now) checked.now.sequent) (checked_row (contents store.now) checked.now) buffer.old buffer.new result }
+    ensures printed { Printed (Stored (contents store.now) checked.now.sequent) (checked_row (contents store.now) checked.now) buffer.old buffer.new result }
+    ensures room { Stored (contents store.now) checked.now.sequent → length (checked_row (contents store.now) checked.now) ≤ longest_line }
 {
     let sequent = &checked.sequent;
     let mut scratch = [0; MOST_BYTES];

@@ -1,6 +1,7 @@
 // The line of a fault.
-ghost use Rattle.std.specs.Prelude.{◌≡◌};
+ghost use Rattle.std.specs.Prelude.{◌≡◌, ◌≤◌, length};
 ghost use Rattle.answers.specs.Rows.{layer_letter, fault_row};
+ghost use Rattle.printing.specs.Limits.{longest_line};
 ghost use Rattle.printing.specs.Printing.{Printed};
 
 use crate::ending::Ending;
@@ -23,7 +24,8 @@ fn layer_letter(layer: Layer) -> [u8; 1]
 
 // Writes the line of a fault to the front of a buffer, and answers its length.
 pub fn write_fault(fault: &Fault, buffer: &mut [u8]) -> Result<usize, Refusal>
-    ensures { Printed (Unit {0}) (fault_row fault.now) buffer.old buffer.new result }
+    ensures printed { Printed (Unit {0}) (fault_row fault.now) buffer.old buffer.new result }
+    ensures room { length (fault_row fault.now) ≤ longest_line }
 {
     let (mut record, mut number, mut place) = (Buffer::new(), Buffer::new(), Buffer::new());
     let letter = layer_letter(fault.layer());
