@@ -3,8 +3,8 @@
 
   inputs.py FOLDER
 
-steps_N: a derivation of N lines by R, over one formula. texts_N: N lines by |1, each with a formula that adds five records to
-the store; 813 of them fill it. known: a store half full, and then a long formula that it has, again and again, up to 65,536
+steps_N: a derivation of N lines, a premise and the others by R. texts_N: N lines by |1, each with a formula that adds five records to
+the store; 813 of them leave room for four. known: a store half full, and then a long formula that it has, again and again, up to 65,536
 bytes; the last record is wrong in form, so that all before it is read. short: the same size with short records. deep and
 brackets: the deepest formula, and the most brackets. A .weigh has its proof file weighed in a frame of 12 worlds in a row.
 """

@@ -3,7 +3,7 @@ use Rattle.std.specs.Prelude.{◌≡◌, ℕ, ◌+◌, ◌<◌, ◌≤◌, ◌�
 use Rattle.answers.specs.declared.fault.Fault.TheVariants as faults
 use Rattle.answers.specs.declared.fault.Reason.TheVariants.{Algebra}
 use Rattle.answers.specs.declared.unanswered.Unanswered.{Unanswered}
-use Rattle.answers.specs.declared.unanswered.Unanswered.TheVariants.{NotStored, ShortBuffer, Faulty}
+use Rattle.answers.specs.declared.unanswered.Unanswered.TheVariants.{NotStored, ShortValues, Faulty}
 use Rattle.heyting.specs.declared.refusal.Refusal.{Refusal}
 use Rattle.heyting.specs.declared.refusal.Refusal.TheVariants.{WorldsOutOfRange, NoSuchWorld, SpanTooLarge, NotMember, ShortBuffer as TooShort, LetterNotMember}
 use Rattle.verdicts.specs.declared.refusal.Unweighable.{Unweighable}
@@ -11,7 +11,7 @@ use Rattle.verdicts.specs.declared.refusal.Unweighable.TheVariants.{NotStored as
 use Rattle.algebra_files.specs.Faults.{record_at}
 use Rattle.algebra_files.specs.Meant.{Gives, LastFor}
 
--- a letter is one of 26
+-- a letter's number is at most 26
 abbrev pub SmallLetter : Refusal → Type 0
 SmallLetter WorldsOutOfRange = Unit {0}
 SmallLetter (NoSuchWorld pair) = Unit {0}
@@ -46,5 +46,5 @@ WhyNot (NotEvaluated WorldsOutOfRange) vs n why = FaultAt WorldsOutOfRange vs n 
 WhyNot (NotEvaluated (NoSuchWorld pair)) vs n why = FaultAt (NoSuchWorld pair) vs n why
 WhyNot (NotEvaluated SpanTooLarge) vs n why = FaultAt SpanTooLarge vs n why
 WhyNot (NotEvaluated NotMember) vs n why = FaultAt NotMember vs n why
-WhyNot (NotEvaluated TooShort) vs n why = why ≡ ShortBuffer
+WhyNot (NotEvaluated TooShort) vs n why = why ≡ ShortValues
 WhyNot (NotEvaluated (LetterNotMember letter)) vs n why = FaultAt (LetterNotMember letter) vs n why

@@ -4,7 +4,7 @@ use Rattle.answers.specs.declared.fault.Fault.{Fault}
 use Rattle.answers.specs.declared.fault.Fault.TheVariants as faults
 use Rattle.answers.specs.declared.fault.Reason.TheVariants.{Form, Algebra}
 use Rattle.answers.specs.declared.unanswered.Unanswered.{Unanswered}
-use Rattle.answers.specs.declared.unanswered.Unanswered.TheVariants.{NotStored, ShortBuffer, Faulty}
+use Rattle.answers.specs.declared.unanswered.Unanswered.TheVariants.{NotStored, ShortValues, Faulty}
 use Rattle.entries.specs.Entries.{Said}
 use Rattle.frames.specs.Frames.{frame_means}
 use Rattle.frames.specs.declared.frame.Frame.{Frame}
@@ -38,7 +38,7 @@ pub record Verdicted (M : Meaning → Type 0) (fs : List Formula) (vs : List (�
 -- a letter's fault comes after that of places that are not stored and that of a short buffer, and these after every other
 pub data Stopped (M : Meaning → Type 0) (F : ℕ → Refusal → Type 0) (fs : List Formula) (s : Sequent) (buffer : List ℕ) : Unanswered → Type 0 where
   unstored : (m : Meaning) → M m → (Stored fs s → ⊥) → Stopped M F fs s buffer NotStored
-  short : (m : Meaning) → M m → Stored fs s → length buffer < length fs → Stopped M F fs s buffer ShortBuffer
+  short : (m : Meaning) → M m → Stored fs s → length buffer < length fs → Stopped M F fs s buffer ShortValues
   faulty :
       (n : ℕ) (refusal : Refusal) → F n refusal → ((letter : ℕ) → refusal ≡ LetterNotMember letter → Stored fs s × (length fs ≤ length buffer))
       → Stopped M F fs s buffer (Faulty (faults.At n (Algebra refusal)))

@@ -1,4 +1,4 @@
-// Which record is at fault.
+// A fault of the algebra at a record.
 ghost use Rattle.std.specs.Prelude.{◌≡◌};
 
 use answers::fault::{Fault, Reason};

@@ -108,7 +108,7 @@ fn order(rt: HostRuntime) -> Result<(), Fail> {
     );
     assert_eq!(rt;
         weighed_by(heap, &letter, None, &mut [])?,
-        Err(Unanswered::ShortBuffer)
+        Err(Unanswered::ShortValues)
     );
     let layer = [Entry::Base(2), Entry::Pair(0, 1), Entry::Nucleus(1)];
     assert_eq!(rt;

@@ -38,7 +38,7 @@ fn unweighed(why: Unweighable, values: &Values, number: usize) -> Unanswered
 {
     match why {
         Unweighable::NotStored => Unanswered::NotStored,
-        Unweighable::NotEvaluated(Refusal::ShortBuffer) => Unanswered::ShortBuffer,
+        Unweighable::NotEvaluated(Refusal::ShortBuffer) => Unanswered::ShortValues,
         Unweighable::NotEvaluated(refusal) => {
             let number = number.saturating_add(blamed_value(refusal, values));
             Unanswered::Faulty(at(number, refusal))

@@ -16,28 +16,28 @@ use Rattle.answers.specs.declared.checked.Checked.{Checked}
 use Rattle.answers.specs.declared.fault.Fault.{Fault}
 use Rattle.answers.specs.declared.unanswered.Unanswered.{Unanswered}
 use Rattle.answers.specs.declared.unanswered.Unanswered.TheVariants as answers
-use Rattle.checking.specs.Checking.{answered, Checks}
+use Rattle.checking.specs.Checking.{answered, ChecksInput}
 use Rattle.algebra_files.specs.Outcomes.{Stopped, Outcome}
-use Rattle.weighing_files.specs.Weighing.{Weighs}
+use Rattle.weighing_files.specs.Weighing.{WeighsInput}
 use Rattle.answer_lines.specs.Lines.{LinePrinted, UnansweredPrinted, CheckedPrinted, VerdictPrinted}
 use Rattle.answer_lines.specs.declared.unprinted.Unprinted.{Unprinted}
-use Rattle.answer_lines.specs.declared.unprinted.Unprinted.TheVariants.{ShortEntries, ShortValues, ShortLine}
+use Rattle.answer_lines.specs.declared.unprinted.Unprinted.TheVariants.{ShortEntries, ShortValues, ShortBuffer}
 
 -- an answer for which neither entries nor values are too few
 pub record Enough {A : Type 0} (a : Result A Unanswered) : Type 0 where
   pub entries : a ≡ Err answers.ShortEntries → ⊥
-  pub values : a ≡ Err answers.ShortBuffer → ⊥
+  pub values : a ≡ Err answers.ShortValues → ⊥
 
-module _ (before after : List ℕ) (r : Result ℕ Unprinted) (room : r ≡ Err ShortLine → ⊥) where
+module _ (before after : List ℕ) (r : Result ℕ Unprinted) (room : r ≡ Err ShortBuffer → ⊥) where
   line_always : (line : List ℕ) (q : Result ℕ Unprinted) → q ≡ r → LinePrinted line before after q → IsOk q
   line_always line (Ok n) same printed = refl
   line_always line (Err ShortEntries) same printed = absurd printed
   line_always line (Err ShortValues) same printed = absurd printed
-  line_always line (Err ShortLine) same printed = absurd (room (sym same))
+  line_always line (Err ShortBuffer) same printed = absurd (room (sym same))
 
   unanswered_always : (why : Unanswered) → Enough {A = Checked} (Err why) → UnansweredPrinted why before after r → IsOk r
   unanswered_always answers.ShortEntries enough printed = absurd (enough.entries refl)
-  unanswered_always answers.ShortBuffer enough printed = absurd (enough.values refl)
+  unanswered_always answers.ShortValues enough printed = absurd (enough.values refl)
   unanswered_always answers.NotStored enough printed = absurd printed
   unanswered_always (answers.Faulty fault) enough printed = line_always (fault_row fault) r refl printed
 
@@ -54,10 +54,10 @@ answered_enough (Ok c) = record { entries = λ e. cc; values = λ e. cc }
 answered_enough (Err fault) = record { entries = λ e. cc; values = λ e. cc }
 
 pub checks_enough : {n : ℕ} {s : List ℕ} {fs gs : List Formula} {es es_then : List (Entry ℕ)} {ls ls_then : List Line} {a : Result Checked Unanswered}
-    → Checks n s fs gs es es_then ls ls_then a → length (records s) ≤ length es → Enough a
-checks_enough (Checks.no_room none same) room = absurd (omega (arith, none.many, room))
-checks_enough (Checks.not_read xs fault says same) room = record { entries = λ e. cc; values = λ e. cc }
-checks_enough (Checks.read xs r says derives) room = answered_enough r
+    → ChecksInput n s fs gs es es_then ls ls_then a → length (records s) ≤ length es → Enough a
+checks_enough (ChecksInput.no_room none same) room = absurd (omega (arith, none.many, room))
+checks_enough (ChecksInput.not_read xs fault says same) room = record { entries = λ e. cc; values = λ e. cc }
+checks_enough (ChecksInput.read xs r says derives) room = answered_enough r
 
 stopped_enough : {M : Meaning → Type 0} {F : ℕ → Refusal → Type 0} {fs : List Formula} {s : Sequent} {buffer : List ℕ} (why : Unanswered)
     → Stopped M F fs s buffer why → length fs ≤ length buffer → Enough {A = Verdict} (Err why)
@@ -71,11 +71,11 @@ outcome_enough M F fs vs s before after (Ok verdict) outcome room = record { ent
 outcome_enough M F fs vs s before after (Err why) outcome room = stopped_enough why outcome.0 room
 
 pub weighs_enough : {n : ℕ} {s : List ℕ} {fs gs : List Formula} {es es_then : List (Entry ℕ)} {ls ls_then : List Line} {vs vs_then : List ℕ} {a : Result Verdict Unanswered}
-    → Weighs n s fs gs es es_then ls ls_then vs vs_then a → length (records s) ≤ length es → length gs ≤ length vs → Enough a
-weighs_enough (Weighs.no_room none same also) room values = absurd (omega (arith, none.many, room))
-weighs_enough (Weighs.not_read xs fault says same also) room values = record { entries = λ e. cc; values = λ e. cc }
-weighs_enough (Weighs.not_derived xs fault says derives same) room values = record { entries = λ e. cc; values = λ e. cc }
-weighs_enough (Weighs.derived xs c f r says derives written outcome) room values = outcome_enough _ _ _ _ _ _ _ r outcome values
+    → WeighsInput n s fs gs es es_then ls ls_then vs vs_then a → length (records s) ≤ length es → length gs ≤ length vs → Enough a
+weighs_enough (WeighsInput.no_room none same also) room values = absurd (omega (arith, none.many, room))
+weighs_enough (WeighsInput.not_read xs fault says same also) room values = record { entries = λ e. cc; values = λ e. cc }
+weighs_enough (WeighsInput.not_derived xs fault says derives same) room values = record { entries = λ e. cc; values = λ e. cc }
+weighs_enough (WeighsInput.derived xs c f r says derives written outcome) room values = outcome_enough _ _ _ _ _ _ _ r outcome values
 
 -- a store holds no more than its capacity, which is what it was
 pub held : (before after : Store) → OthersStay before after → length (contents after) ≤ capacity before

@@ -15,20 +15,20 @@ use Rattle.checking.specs.Unique.{SameChecking}
 use Rattle.answer_lines.specs.Lines.{LinePrinted, NoLine, UnansweredPrinted, CheckedPrinted, VerdictPrinted}
 use Rattle.answer_lines.specs.Settled.{OneLine}
 use Rattle.answer_lines.specs.declared.unprinted.Unprinted.{Unprinted}
-use Rattle.answer_lines.specs.declared.unprinted.Unprinted.TheVariants.{ShortEntries, ShortValues, ShortLine}
+use Rattle.answer_lines.specs.declared.unprinted.Unprinted.TheVariants.{ShortEntries, ShortValues, ShortBuffer}
 
 module _ (before a b : List ℕ) where
   line_once : (line : List ℕ) (r q : Result ℕ Unprinted) → LinePrinted line before a r → LinePrinted line before b q → (r ≡ q) × (a ≡ b)
   line_once line (Ok n) (Ok m) p t = (ap (λ k. Ok k) (p.0 ∙ sym t.0), p.2 ∙ sym t.2)
-  line_once line (Ok n) (Err ShortLine) p t = absurd (omega (arith, p.0, p.1, t.0))
+  line_once line (Ok n) (Err ShortBuffer) p t = absurd (omega (arith, p.0, p.1, t.0))
   line_once line (Ok n) (Err ShortEntries) p t = absurd t
   line_once line (Ok n) (Err ShortValues) p t = absurd t
   line_once line (Err ShortEntries) q p t = absurd p
   line_once line (Err ShortValues) q p t = absurd p
-  line_once line (Err ShortLine) (Ok m) p t = absurd (omega (arith, t.0, t.1, p.0))
-  line_once line (Err ShortLine) (Err ShortLine) p t = (refl, p.1 ∙ sym t.1)
-  line_once line (Err ShortLine) (Err ShortEntries) p t = absurd t
-  line_once line (Err ShortLine) (Err ShortValues) p t = absurd t
+  line_once line (Err ShortBuffer) (Ok m) p t = absurd (omega (arith, t.0, t.1, p.0))
+  line_once line (Err ShortBuffer) (Err ShortBuffer) p t = (refl, p.1 ∙ sym t.1)
+  line_once line (Err ShortBuffer) (Err ShortEntries) p t = absurd t
+  line_once line (Err ShortBuffer) (Err ShortValues) p t = absurd t
 
   none_once : (why : Unprinted) (r q : Result ℕ Unprinted) → NoLine why before a r → NoLine why before b q → (r ≡ q) × (a ≡ b)
   none_once why r q p t = (p.0 ∙ sym t.0, p.1 ∙ sym t.1)
@@ -36,7 +36,7 @@ module _ (before a b : List ℕ) where
   unanswered_once : (why : Unanswered) (r q : Result ℕ Unprinted) → UnansweredPrinted why before a r → UnansweredPrinted why before b q → (r ≡ q) × (a ≡ b)
   unanswered_once answers.ShortEntries r q p t = none_once ShortEntries r q p t
   unanswered_once answers.NotStored r q p t = absurd p
-  unanswered_once answers.ShortBuffer r q p t = none_once ShortValues r q p t
+  unanswered_once answers.ShortValues r q p t = none_once ShortValues r q p t
   unanswered_once (answers.Faulty fault) r q p t = line_once (fault_row fault) r q p t
 
   verdict_once : (v : Result Verdict Unanswered) (r q : Result ℕ Unprinted) → VerdictPrinted v before a r → VerdictPrinted v before b q → (r ≡ q) × (a ≡ b)

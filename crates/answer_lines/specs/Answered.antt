@@ -1,10 +1,8 @@
 -- The line for an input.
-use Rattle.std.specs.Prelude.{ℕ, List, map, IfOk, Result}
-use Rattle.grammar.specs.Contents.{formula_at}
+use Rattle.std.specs.Prelude.{ℕ, List, IfOk, Result}
 use Rattle.grammar.specs.Formula.{Formula}
-use Rattle.ledger.specs.Sequents.{premise_places}
 use Rattle.ledger.specs.declared.line.Line.{Line}
-use Rattle.soundness.specs.Soundness.{Entails}
+use Rattle.scripts.specs.Proofs.{Entailed}
 use Rattle.entries.specs.declared.entry.Entry.{Entry}
 use Rattle.verdicts.specs.declared.verdict.Verdict.{Verdict}
 use Rattle.answers.specs.declared.checked.Checked.{Checked}
@@ -19,7 +17,7 @@ use Rattle.answer_lines.specs.declared.unprinted.Unprinted.{Unprinted}
 pub record CheckedLine (capacity : ℕ) (s : List ℕ) (fs gs : List Formula) (entries entries_then : List (Entry ℕ)) (lines lines_then : List Line) (before after : List ℕ) (r : Result ℕ Unprinted) : Type 0 where
   pub answer : Result Checked Unanswered
   pub only : ChecksOnly capacity s fs gs entries entries_then lines lines_then answer
-  pub entailed : IfOk answer (λ c. Entails c.sequent.mode (map (formula_at gs) (premise_places c.sequent)) (formula_at gs c.sequent.conclusion))
+  pub entailed : IfOk answer (Entailed gs)
   pub printed : CheckedPrinted gs answer before after r
 
 -- the one answer to an input s of both files, confirmed in the algebra that is meant, and its line printed, or which slice is too short

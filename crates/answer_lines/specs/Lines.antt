@@ -9,12 +9,12 @@ use Rattle.answers.specs.declared.checked.Checked.{Checked}
 use Rattle.answers.specs.declared.unanswered.Unanswered.{Unanswered}
 use Rattle.answers.specs.declared.unanswered.Unanswered.TheVariants as answers
 use Rattle.answer_lines.specs.declared.unprinted.Unprinted.{Unprinted}
-use Rattle.answer_lines.specs.declared.unprinted.Unprinted.TheVariants.{ShortEntries, ShortValues, ShortLine}
+use Rattle.answer_lines.specs.declared.unprinted.Unprinted.TheVariants.{ShortEntries, ShortValues, ShortBuffer}
 
 -- the buffer as it was and as it is, and what is answered: the line's length, or that the buffer is too short for it and stays
 abbrev pub LinePrinted : List ℕ → List ℕ → List ℕ → Result ℕ Unprinted → Type 0
 LinePrinted line before after (Ok n) = (n ≡ length line) × (n ≤ length before) × (after ≡ put before 0 line)
-LinePrinted line before after (Err ShortLine) = (length before < length line) × (after ≡ before)
+LinePrinted line before after (Err ShortBuffer) = (length before < length line) × (after ≡ before)
 LinePrinted line before after (Err _) = ⊥
 
 -- there is no line where a slice is too short for an answer
@@ -24,7 +24,7 @@ NoLine why before after r = (r ≡ Err why) × (after ≡ before)
 abbrev pub UnansweredPrinted : Unanswered → List ℕ → List ℕ → Result ℕ Unprinted → Type 0
 UnansweredPrinted (answers.Faulty fault) before after r = LinePrinted (fault_row fault) before after r
 UnansweredPrinted answers.ShortEntries before after r = NoLine ShortEntries before after r
-UnansweredPrinted answers.ShortBuffer before after r = NoLine ShortValues before after r
+UnansweredPrinted answers.ShortValues before after r = NoLine ShortValues before after r
 UnansweredPrinted answers.NotStored before after r = ⊥
 
 -- the line for what a proof file shows, over the formulas of the store, or for why it shows nothing

@@ -17,11 +17,13 @@ use verdicts::verdict::Verdict;
 fn print_unanswered(why: Unanswered, buffer: &mut [u8]) -> Result<usize, Unprinted>
     requires { CanBeTold why }
     ensures printed { UnansweredPrinted why buffer.old buffer.new result }
-    ensures room { longest_line ≤ length buffer.old → result ≡ Err Unprinted.ShortLine → ⊥ }
+    ensures room { longest_line ≤ length buffer.old → result ≡ Err Unprinted.ShortBuffer → ⊥ }
 {
     match why {
-        Unanswered::Faulty(fault) => write_fault(&fault, buffer).map_err(|_| Unprinted::ShortLine),
-        Unanswered::ShortBuffer => Err(Unprinted::ShortValues),
+        Unanswered::Faulty(fault) => write_fault(&fault, buffer).map_err(
+            |_| Unprinted::ShortBuffer,
+        ),
+        Unanswered::ShortValues => Err(Unprinted::ShortValues),
         _ => Err(Unprinted::ShortEntries),
     }
 }
@@ -33,10 +35,10 @@ pub(crate) fn print_checked(
 ) -> Result<usize, Unprinted>
     requires { CheckedCanBeTold (contents store.now) answer }
     ensures printed { CheckedPrinted (contents store.now) answer buffer.old buffer.new result }
-    ensures room { longest_line ≤ length buffer.old → result ≡ Err Unprinted.ShortLine → ⊥ }
+    ensures room { longest_line ≤ length buffer.old → result ≡ Err Unprinted.ShortBuffer → ⊥ }
 {
     match answer {
-        Ok(checked) => write_checked(&checked, store, buffer).map_err(|_| Unprinted::ShortLine),
+        Ok(checked) => write_checked(&checked, store, buffer).map_err(|_| Unprinted::ShortBuffer),
         Err(why) => print_unanswered(why, buffer),
     }
 }
@@ -47,10 +49,10 @@ pub(crate) fn print_verdict(
 ) -> Result<usize, Unprinted>
     requires { VerdictCanBeTold answer }
     ensures printed { VerdictPrinted answer buffer.old buffer.new result }
-    ensures room { longest_line ≤ length buffer.old → result ≡ Err Unprinted.ShortLine → ⊥ }
+    ensures room { longest_line ≤ length buffer.old → result ≡ Err Unprinted.ShortBuffer → ⊥ }
 {
     match answer {
-        Ok(verdict) => write_verdict(&verdict, buffer).map_err(|_| Unprinted::ShortLine),
+        Ok(verdict) => write_verdict(&verdict, buffer).map_err(|_| Unprinted::ShortBuffer),
         Err(why) => print_unanswered(why, buffer),
     }
 }

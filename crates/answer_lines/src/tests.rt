@@ -75,7 +75,7 @@ fn one_too_few(rt: HostRuntime) -> Result<(), Fail> {
     );
     assert_eq!(rt;
         checked(rt.alloc(), 3, PROOF, &mut line)?,
-        Err(Unprinted::ShortLine)
+        Err(Unprinted::ShortBuffer)
     );
     assert_eq!(rt;
         weighed(rt.alloc(), 4, 27, &mut line)?,

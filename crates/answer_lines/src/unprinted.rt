@@ -7,5 +7,5 @@ pub enum Unprinted {
     // The buffer for values is shorter than the store's count.
     ShortValues,
     // The line is longer than the buffer for it.
-    ShortLine,
+    ShortBuffer,
 }

@@ -2,7 +2,7 @@
 //
 //   checked::Checked         what an accepted proof file shows
 //   fault::Fault             the first fault of an input, by record, layer, number and place
-//   unanswered::Unanswered   why there is neither a sequent nor a verdict
+//   unanswered::Unanswered   why what is asked for is not answered
 #![tactic(auto)]
 
 pub mod checked;

@@ -10,8 +10,8 @@ pub enum Unanswered {
     ShortEntries,
     // A premise or the conclusion stands at a place that holds no formula.
     NotStored,
-    // The buffer is shorter than the store's count.
-    ShortBuffer,
+    // The buffer for values is shorter than the store's count.
+    ShortValues,
     // The input has a fault, the first.
     Faulty(Fault),
 }

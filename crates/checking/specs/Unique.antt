@@ -8,7 +8,7 @@ use Rattle.entries.specs.declared.entry.Entry.{Entry}
 use Rattle.answers.specs.declared.checked.Checked.{Checked}
 use Rattle.answers.specs.declared.unanswered.Unanswered.{Unanswered}
 use Rattle.scripts.specs.Settled.{SameShown}
-use Rattle.checking.specs.Checking.{Checks}
+use Rattle.checking.specs.Checking.{ChecksInput}
 
 -- the same in all that is told
 abbrev pub SameChecking : Result Checked Unanswered → Result Checked Unanswered → Type 0
@@ -20,15 +20,15 @@ SameChecking _ _ = ⊥
 abbrev pub Only : ℕ → List ℕ → List Formula → List Formula → List (Entry ℕ) → List (Entry ℕ) → List Line → List Line → Result Checked Unanswered → Type 0
 Only capacity s fs gs entries entries_then lines lines_then a =
     (hs : List Formula) (entries_too : List (Entry ℕ)) (lines_too : List Line) (b : Result Checked Unanswered)
-    → Checks capacity s fs hs entries entries_too lines lines_too b → SameChecking a b × (gs ≡ hs) × (map stored entries_then ≡ map stored entries_too) × (lines_then ≡ lines_too)
+    → ChecksInput capacity s fs hs entries entries_too lines lines_too b → SameChecking a b × (gs ≡ hs) × (map stored entries_then ≡ map stored entries_too) × (lines_then ≡ lines_too)
 
 -- into a store that holds each formula once
 abbrev pub OneAnswer : Type 0
 OneAnswer =
     (capacity : ℕ) (s : List ℕ) (fs gs : List Formula) (entries entries_then : List (Entry ℕ)) (lines lines_then : List Line) (a : Result Checked Unanswered)
-    → Once fs → Checks capacity s fs gs entries entries_then lines lines_then a → Only capacity s fs gs entries entries_then lines lines_then a
+    → Once fs → ChecksInput capacity s fs gs entries entries_then lines lines_then a → Only capacity s fs gs entries entries_then lines lines_then a
 
 -- the one answer a to the proof file s
 pub record Answers (capacity : ℕ) (s : List ℕ) (fs gs : List Formula) (entries entries_then : List (Entry ℕ)) (lines lines_then : List Line) (a : Result Checked Unanswered) : Type 0 where
-  pub checks : Checks capacity s fs gs entries entries_then lines lines_then a
+  pub checks : ChecksInput capacity s fs gs entries entries_then lines lines_then a
   pub only : Only capacity s fs gs entries entries_then lines lines_then a

@@ -1,9 +1,7 @@
 // Checks a proof file.
-ghost use Rattle.std.specs.Prelude.{map, IfOk};
+ghost use Rattle.std.specs.Prelude.{IfOk};
 ghost use Rattle.formulas.specs.Stores.{capacity, contents, OthersStay};
-ghost use Rattle.grammar.specs.Contents.{formula_at};
-ghost use Rattle.ledger.specs.Sequents.{premise_places};
-ghost use Rattle.soundness.specs.Soundness.{Entails};
+ghost use Rattle.scripts.specs.Proofs.{Entailed};
 ghost use Rattle.checking.specs.Unique.{Answers};
 
 use answers::checked::Checked;
@@ -23,7 +21,7 @@ pub fn check(
     input: &[u8],
 ) -> Result<Checked, Unanswered>
     ensures exact { Answers (capacity store.old) input.now (contents store.old) (contents store.new) entries.old entries.new lines.old lines.new result }
-    ensures entails { IfOk result (λ c. Entails c.sequent.mode (map (formula_at (contents store.new)) (premise_places c.sequent)) (formula_at (contents store.new) c.sequent.conclusion)) }
+    ensures entails { IfOk result (Entailed (contents store.new)) }
     ensures stay { OthersStay store.old store.new }
 {
     let count = read_input(store, entries, Format::Proof, input)?;

@@ -1,13 +1,13 @@
-// How much the programs take.
+// What the programs read at most, and what they lend.
 
 // One byte more than an input may have, so that one that is too long is seen.
 pub const MOST_READ: usize = 65537;
 
 // The records of a store.
-pub const RECORDS: usize = 4096;
+pub const STORE_RECORDS: usize = 4096;
 
 // The line records of a derivation.
-pub const LINES: usize = 1024;
+pub const LINE_RECORDS: usize = 1024;
 
 // Room for a conclusion and 32 premises of 1,024 bytes each, and what stands between them.
-pub const LONGEST_LINE: usize = 40000;
+pub const ANSWER_ROOM: usize = 40000;

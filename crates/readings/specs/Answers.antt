@@ -6,7 +6,7 @@ use Rattle.records.specs.Pieces.{Piece, records}
 use Rattle.answers.specs.declared.fault.Fault.{Fault}
 use Rattle.answers.specs.declared.fault.Fault.TheVariants.{TooLong, At}
 use Rattle.answers.specs.declared.unanswered.Unanswered.{Unanswered}
-use Rattle.answers.specs.declared.unanswered.Unanswered.TheVariants.{ShortEntries, NotStored, ShortBuffer, Faulty}
+use Rattle.answers.specs.declared.unanswered.Unanswered.TheVariants.{ShortEntries, NotStored, ShortValues, Faulty}
 use Rattle.entries.specs.Entries.{Said, stored}
 use Rattle.entries.specs.declared.entry.Entry.{Entry}
 use Rattle.entries.specs.declared.turn.Format.{Format}
@@ -35,7 +35,7 @@ abbrev pub RecordsRead : ℕ → Format → List ℕ → List Formula → List F
 RecordsRead capacity format s fs gs before after (Ok n) = (xs : List (Said ℕ)) × Reads capacity format Start 1 (records s) fs gs xs None × Kept xs before after × (n ≡ length xs)
 RecordsRead capacity format s fs gs before after (Err fault) = (xs : List (Said ℕ)) × Reads capacity format Start 1 (records s) fs gs xs (Some fault) × Kept xs before after
 
--- what an input says up to its first fault, that it says nothing else, and entries that say so
+-- what an input says up to its first fault, that it says nothing else, and entries that say so; where it is not too long, there is one for each record
 pub record SaysInto (capacity : ℕ) (format : Format) (s : List ℕ) (fs gs : List Formula) (before after : List (Entry ℕ)) (xs : List (Said ℕ)) (e : Option Fault) : Type 0 where
   pub says : InputSays capacity format s fs gs xs e
   pub only : (hs : List Formula) (ys : List (Said ℕ)) (d : Option Fault) → InputSays capacity format s fs hs ys d → SameReading gs hs xs ys e d
@@ -54,5 +54,5 @@ abbrev pub InputRead : ℕ → Format → List ℕ → List Formula → List For
 InputRead capacity format s fs gs before after (Ok n) = (xs : List (Said ℕ)) × SaysInto capacity format s fs gs before after xs None × (n ≡ length xs) × (n ≡ length (records s))
 InputRead capacity format s fs gs before after (Err ShortEntries) = NoRoom s fs gs before after
 InputRead capacity format s fs gs before after (Err NotStored) = ⊥
-InputRead capacity format s fs gs before after (Err ShortBuffer) = ⊥
+InputRead capacity format s fs gs before after (Err ShortValues) = ⊥
 InputRead capacity format s fs gs before after (Err (Faulty fault)) = (xs : List (Said ℕ)) × SaysInto capacity format s fs gs before after xs (Some fault)

@@ -42,8 +42,8 @@ EntersText capacity x None fs gs r = (r ≡ Ok (placed x 0)) × (gs ≡ fs)
 EntersText capacity x (Some s) fs gs r = (a : Result ℕ Refusal) × Read s capacity fs gs a × (r ≡ onto (placed x) a)
 
 -- a record's formula is read into a store that held fs and then holds gs
-abbrev pub Enters : ℕ → Said (List ℕ) → List Formula → List Formula → Result (Said ℕ) Refusal → Type 0
-Enters capacity x fs gs r = EntersText capacity x (text_of x) fs gs r
+abbrev pub EntersRecord : ℕ → Said (List ℕ) → List Formula → List Formula → Result (Said ℕ) Refusal → Type 0
+EntersRecord capacity x fs gs r = EntersText capacity x (text_of x) fs gs r
 
 abbrev pub after_form : Result (Said ℕ) Refusal → Turn → Result (Said ℕ × Turn) Reason
 after_form (Ok x) next = Ok (x, next)
@@ -51,7 +51,7 @@ after_form (Err refusal) next = Err (AFormula refusal)
 
 abbrev pub ByForm : ℕ → Result (Said (List ℕ) × Turn) ℕ → List Formula → List Formula → Result (Said ℕ × Turn) Reason → Type 0
 ByForm capacity (Err place) fs gs r = (r ≡ Err (Form place)) × (gs ≡ fs)
-ByForm capacity (Ok x) fs gs r = (a : Result (Said ℕ) Refusal) × Enters capacity x.0 fs gs a × (r ≡ after_form a x.1)
+ByForm capacity (Ok x) fs gs r = (a : Result (Said ℕ) Refusal) × EntersRecord capacity x.0 fs gs a × (r ≡ after_form a x.1)
 
 -- one record: its form, then its formula
 abbrev pub ReadsRecord : ℕ → Format → Turn → Piece → List Formula → List Formula → Result (Said ℕ × Turn) Reason → Type 0

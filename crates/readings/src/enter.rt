@@ -3,7 +3,7 @@ ghost use Rattle.entries.specs.Texts.{said_here};
 ghost use Rattle.entries.specs.Forms.{onto};
 ghost use Rattle.records.specs.Cursors.{piece};
 ghost use Rattle.formulas.specs.Stores.{capacity, contents, OthersStay};
-ghost use Rattle.readings.specs.Reading.{Enters, ReadsRecord};
+ghost use Rattle.readings.specs.Reading.{EntersRecord, ReadsRecord};
 ghost use Rattle.entries.specs.Entries.{stored};
 ghost use Rattle.readings.specs.Answers.{stored_next, ReadsNumbered};
 
@@ -17,7 +17,7 @@ use records::records::Record;
 
 // A record's formula goes into the store.
 fn enter(store: &mut Store, said: Entry<&[u8]>) -> Result<Entry<usize>, Refusal>
-    ensures enters { Enters (capacity store.old) (said_here said.entry) (contents store.old) (contents store.new) (onto stored result) }
+    ensures enters { EntersRecord (capacity store.old) (said_here said.entry) (contents store.old) (contents store.new) (onto stored result) }
     ensures stay { OthersStay store.old store.new }
 {
     Ok(match said {

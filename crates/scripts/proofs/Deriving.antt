@@ -20,8 +20,8 @@ use Rattle.entries.specs.declared.entry.Entry.{Entry}
 use Rattle.answers.specs.declared.checked.Checked.{Checked}
 use Rattle.answers.specs.declared.fault.Fault.{Fault}
 use Rattle.scripts.proofs.Running.{drop_further}
-use Rattle.scripts.specs.Proofs.{acts, mode_of, front, back, Concluded, Derives, LinesOf}
-use Rattle.scripts.specs.Runs.{premise_steps, act_steps, steps_of, steps_in, Runs, Ran}
+use Rattle.scripts.specs.Proofs.{acts, mode_of, front, back, Concluded, RecordsShow, LinesOf}
+use Rattle.scripts.specs.Runs.{premise_calls, act_calls, gathering_calls, open_calls, Runs, Ran}
 
 -- what splits the records where the first that ends the gathering stands
 module _ (es : List (Entry ℕ)) {k : ℕ} {xs : List (Entry ℕ)} (is : k ≡ position_or_len acts (map stored es)) where
@@ -35,14 +35,14 @@ module _ (es : List (Entry ℕ)) {k : ℕ} {xs : List (Entry ℕ)} (is : k ≡ p
   back_is split = ap (map stored) split ∙ sym (drop-map stored k es) ∙ ap (λ n. drop n (map stored es)) is
 
 module _ (fs : List Formula) (slice : ℕ) (xs : List (Said ℕ)) where
-  pub gathered_fault : (k : History) (u : Fault) → Runs (premise_steps fs slice) [] 1 (front xs) k (Some u) → Derives fs slice xs k (Err u)
+  pub gathered_fault : (k : History) (u : Fault) → Runs (premise_calls fs slice) [] 1 (front xs) k (Some u) → RecordsShow fs slice xs k (Err u)
   gathered_fault k u runs = inl (k, Some u, runs, (refl, refl))
 
-  module _ (k : History) (gathered : Runs (premise_steps fs slice) [] 1 (front xs) k None) (j : History) where
-    pub acted_fault : (u : Fault) → Runs (act_steps (mode_of xs) fs slice) (begin ∷ k) (length (front xs) + 1) (back xs) j (Some u) → Derives fs slice xs j (Err u)
+  module _ (k : History) (gathered : Runs (premise_calls fs slice) [] 1 (front xs) k None) (j : History) where
+    pub acted_fault : (u : Fault) → Runs (act_calls (mode_of xs) fs slice) (begin ∷ k) (length (front xs) + 1) (back xs) j (Some u) → RecordsShow fs slice xs j (Err u)
     acted_fault u runs = inl (k, None, gathered, runs)
 
-    pub concluded : Runs (act_steps (mode_of xs) fs slice) (begin ∷ k) (length (front xs) + 1) (back xs) j None → (r : Result Checked Fault) → Concluded (mode_of xs) fs j (length xs) r → Derives fs slice xs j r
+    pub concluded : Runs (act_calls (mode_of xs) fs slice) (begin ∷ k) (length (front xs) + 1) (back xs) j None → (r : Result Checked Fault) → Concluded (mode_of xs) fs j (length xs) r → RecordsShow fs slice xs j r
     concluded acted (Ok c) shown = ((k, None, gathered, acted), shown)
     concluded acted (Err u) shown = inr ((k, None, gathered, acted), shown)
 
@@ -64,7 +64,7 @@ lines_of {fs} {before} {held} {after} {n} {h} same past recorded =
 
 -- the premises are gathered, and h is their history
 pub record Front (fs : List Formula) (before : List Line) (xs : List (Said ℕ)) (after : Gathering) (h : History) : Type 0 where
-  pub runs : Runs (premise_steps fs (length before)) [] 1 (front xs) h None
+  pub runs : Runs (premise_calls fs (length before)) [] 1 (front xs) h None
   pub history : Gathered after h
   pub mode : after.mode ≡ mode_of xs
   pub formulas : formulas_of (sheet_of after) ≡ fs
@@ -78,13 +78,13 @@ module _ {store : Bor Store} {lines : MutBor (List Line)} {m : Mode} (g after : 
   gathered_formulas : formulas_of (sheet_of after) ≡ contents store.now
   gathered_formulas = ap (λ t. contents t.now) leaves.store ∙ ap formulas_of fresh
 
-  pub gathered_ran : (r : Result Unit Fault) {xs ys : List (Said ℕ)} → xs ≡ ys → Ran (steps_of g) (Gathered after) [] 1 xs r → Ran (premise_steps (contents store.now) (length lines.now)) (Gathered after) [] 1 ys r
-  gathered_ran r same ran = subst₂ (λ st xs. Ran st (Gathered after) [] 1 xs r) (ap (λ s. premise_steps (formulas_of s) (length s.lines.now)) fresh) same ran
+  pub gathered_ran : (r : Result Unit Fault) {xs ys : List (Said ℕ)} → xs ≡ ys → Ran (gathering_calls g) (Gathered after) [] 1 xs r → Ran (premise_calls (contents store.now) (length lines.now)) (Gathered after) [] 1 ys r
+  gathered_ran r same ran = subst₂ (λ st xs. Ran st (Gathered after) [] 1 xs r) (ap (λ s. premise_calls (formulas_of s) (length s.lines.now)) fresh) same ran
 
   pub gathered_lines : (h : History) {es : List Line} → es ≡ after.lines.now → Gathered after h → LinesOf (contents store.now) lines.now es h
   gathered_lines h same x = lines_of same gathered_past (subst (λ fs. Recorded fs after.lines.now after.count h) gathered_formulas x.recorded)
 
-  pub gathered_front : (ys : List (Said ℕ)) {xs : List (Said ℕ)} → m ≡ mode_of ys → xs ≡ front ys → Ran (steps_of g) (Gathered after) [] 1 xs (Ok tt) → (h : History) × Front (contents store.now) lines.now ys after h
+  pub gathered_front : (ys : List (Said ℕ)) {xs : List (Said ℕ)} → m ≡ mode_of ys → xs ≡ front ys → Ran (gathering_calls g) (Gathered after) [] 1 xs (Ok tt) → (h : History) × Front (contents store.now) lines.now ys after h
   gathered_front ys is same ran =
       let k = gathered_ran (Ok tt) same ran in
       (k.0, record { runs = k.1; history = k.2; mode = leaves.mode ∙ ap (λ s. s.mode) fresh ∙ is; formulas = gathered_formulas; past = gathered_past })
@@ -103,15 +103,15 @@ module _ {fs : List Formula} {before : List Line} {xs : List (Said ℕ)} {after 
   pub acted_formulas : formulas_of (sheet_in acted) ≡ fs
   acted_formulas = ap (λ t. contents t.now) (leaves.sheet.store ∙ takes.store) ∙ half.formulas
 
-  acted_steps : steps_in o ≡ act_steps (mode_of xs) fs (length before)
-  acted_steps =
-      ap (λ m. act_steps m (formulas_of (sheet_in o)) (length o.lines.now)) (takes.mode ∙ half.mode)
-      ∙ ap₂ (act_steps (mode_of xs)) (ap (λ t. contents t.now) takes.store ∙ half.formulas) (ap length takes.lines ∙ half.past.long)
+  acted_calls : open_calls o ≡ act_calls (mode_of xs) fs (length before)
+  acted_calls =
+      ap (λ m. act_calls m (formulas_of (sheet_in o)) (length o.lines.now)) (takes.mode ∙ half.mode)
+      ∙ ap₂ (act_calls (mode_of xs)) (ap (λ t. contents t.now) takes.store ∙ half.formulas) (ap length takes.lines ∙ half.past.long)
 
   pub acted_ran : (r : Result Unit Fault) {i : ℕ} {ys : List (Said ℕ)} → i ≡ length (front xs) + 1 → ys ≡ back xs
-      → Ran (steps_in o) (Derived acted) (begin ∷ h) i ys r → Ran (act_steps (mode_of xs) fs (length before)) (Derived acted) (begin ∷ h) (length (front xs) + 1) (back xs) r
+      → Ran (open_calls o) (Derived acted) (begin ∷ h) i ys r → Ran (act_calls (mode_of xs) fs (length before)) (Derived acted) (begin ∷ h) (length (front xs) + 1) (back xs) r
   acted_ran r {ys = ys} at same ran =
-      subst₂ (λ st zs. Ran st (Derived acted) (begin ∷ h) (length (front xs) + 1) zs r) acted_steps same (subst (λ n. Ran (steps_in o) (Derived acted) (begin ∷ h) n ys r) at ran)
+      subst₂ (λ st zs. Ran st (Derived acted) (begin ∷ h) (length (front xs) + 1) zs r) acted_calls same (subst (λ n. Ran (open_calls o) (Derived acted) (begin ∷ h) n ys r) at ran)
 
   acted_past : Past acted.count before acted.lines.now
   acted_past =

@@ -12,7 +12,7 @@ use Rattle.entries.specs.declared.entry.Entry.{Entry}
 use Rattle.entries.specs.declared.entry.Entry.TheVariants.{Mode}
 use Rattle.fitch.specs.declared.mode.Mode.TheVariants.{Constructive}
 use Rattle.formulas.specs.Stores.{contents}
-use Rattle.scripts.specs.Runs.{Steps, premise_steps, act_steps, Runs, Ran, RanOne}
+use Rattle.scripts.specs.Runs.{Calls, premise_calls, act_calls, Runs, Ran, RanOne}
 
 pub nothing_left : (s : Sheet) → Leaves s s
 nothing_left s = record { more = omega arith; store = refl; mode = refl; slice = refl; long = refl; rest = refl }
@@ -39,13 +39,13 @@ nothing_left_open o = record { premises = refl; sheet = nothing_left (sheet_in o
 pub leave_on_open : {o p q : Open} → LeavesOpen o p → LeavesOpen p q → LeavesOpen o q
 leave_on_open first second = record { premises = second.premises ∙ first.premises; sheet = leave_on first.sheet second.sheet }
 
-module _ (steps : Steps) (first : ℕ) (all : List (Said ℕ)) where
+module _ (calls : Calls) (first : ℕ) (all : List (Said ℕ)) where
   -- after a history and its first n records, those that are left go on from here
   abbrev pub SoFar : History → ℕ → History → Type 0
-  SoFar before n h = (k : History) (e : Option Fault) → Runs steps h (first + n) (drop n all) k e → Runs steps before first all k e
+  SoFar before n h = (k : History) (e : Option Fault) → Runs calls h (first + n) (drop n all) k e → Runs calls before first all k e
 
   pub none_yet : (h : History) → SoFar h 0 h
-  none_yet h k e runs = subst (λ n. Runs steps h n all k e) (plus_zero first) runs
+  none_yet h k e runs = subst (λ n. Runs calls h n all k e) (plus_zero first) runs
     where
       plus_zero : (n : ℕ) → n + 0 ≡ n
       plus_zero n = omega arith
@@ -54,16 +54,16 @@ module _ (steps : Steps) (first : ℕ) (all : List (Said ℕ)) where
   abbrev pub At_hand : ℕ → Said ℕ → Type 0
   At_hand n x = drop n all ≡ x ∷ drop (n + 1) all
 
-  pub one_more : (before h : History) (n : ℕ) (x : Said ℕ) → At_hand n x → SoFar before n h → Accepted (steps.checks h x) → SoFar before (n + 1) (steps.after h x)
+  pub one_more : (before h : History) (n : ℕ) (x : Said ℕ) → At_hand n x → SoFar before n h → Accepted (calls.checks h x) → SoFar before (n + 1) (calls.after h x)
   one_more before h n x here so_far accepted k e runs =
-      so_far k e (subst (λ xs. Runs steps h (first + n) xs k e) (sym here) (Runs.next accepted (subst (λ i. Runs steps (steps.after h x) i (drop (n + 1) all) k e) (omega arith) runs)))
+      so_far k e (subst (λ xs. Runs calls h (first + n) xs k e) (sym here) (Runs.next accepted (subst (λ i. Runs calls (calls.after h x) i (drop (n + 1) all) k e) (omega arith) runs)))
 
-  pub all_run : (before h : History) (n : ℕ) → length all ≤ n → SoFar before n h → Runs steps before first all h None
-  all_run before h n le so_far = so_far h None (subst (λ xs. Runs steps h (first + n) xs h None) (sym (drop_all n all le)) Runs.done)
+  pub all_run : (before h : History) (n : ℕ) → length all ≤ n → SoFar before n h → Runs calls before first all h None
+  all_run before h n le so_far = so_far h None (subst (λ xs. Runs calls h (first + n) xs h None) (sym (drop_all n all le)) Runs.done)
 
   -- a fault of the record at hand is one of the run
-  pub stopped_by : (Has : History → Type 0) (before h : History) (n : ℕ) (x : Said ℕ) (fault : Fault) → At_hand n x → SoFar before n h → RanOne steps Has h (first + n) x (Err fault) → Ran steps Has before first all (Err fault)
-  stopped_by Has before h n x fault here so_far ran = (h, so_far h (Some fault) (subst (λ xs. Runs steps h (first + n) xs h (Some fault)) (sym here) (Runs.stop ran.0)), ran.1)
+  pub stopped_by : (Has : History → Type 0) (before h : History) (n : ℕ) (x : Said ℕ) (fault : Fault) → At_hand n x → SoFar before n h → RanOne calls Has h (first + n) x (Err fault) → Ran calls Has before first all (Err fault)
+  stopped_by Has before h n x fault here so_far ran = (h, so_far h (Some fault) (subst (λ xs. Runs calls h (first + n) xs h (Some fault)) (sym here) (Runs.stop ran.0)), ran.1)
 
 -- what stands past the end of the records
 abbrev pub no_entry : Entry ℕ
@@ -72,10 +72,10 @@ no_entry = Mode Constructive
 pub at_hand : (es : List (Entry ℕ)) (n : ℕ) (d : Entry ℕ) → n < length es → drop n (map stored es) ≡ stored (get_or es n d) ∷ drop (n + 1) (map stored es)
 at_hand es n d lt = drop-map stored n es ∙ ap (map stored) (drop_more es n d lt) ∙ ap (λ xs. stored (get_or es n d) ∷ xs) (sym (drop-map stored (n + 1) es))
 
-pub same_premise_steps : {s t : Sheet} → Leaves s t → premise_steps (formulas_of t) (length t.lines.now) ≡ premise_steps (formulas_of s) (length s.lines.now)
-same_premise_steps {s} {t} leaves = ap₂ premise_steps (ap (λ store. contents store.now) leaves.store) leaves.long
+pub same_premise_calls : {s t : Sheet} → Leaves s t → premise_calls (formulas_of t) (length t.lines.now) ≡ premise_calls (formulas_of s) (length s.lines.now)
+same_premise_calls {s} {t} leaves = ap₂ premise_calls (ap (λ store. contents store.now) leaves.store) leaves.long
 
-pub same_act_steps : {s t : Sheet} → Leaves s t → act_steps t.mode (formulas_of t) (length t.lines.now) ≡ act_steps s.mode (formulas_of s) (length s.lines.now)
-same_act_steps {s} {t} leaves =
-    ap (λ mode. act_steps mode (formulas_of t) (length t.lines.now)) leaves.mode
-    ∙ ap₂ (act_steps s.mode) (ap (λ store. contents store.now) leaves.store) leaves.long
+pub same_act_calls : {s t : Sheet} → Leaves s t → act_calls t.mode (formulas_of t) (length t.lines.now) ≡ act_calls s.mode (formulas_of s) (length s.lines.now)
+same_act_calls {s} {t} leaves =
+    ap (λ mode. act_calls mode (formulas_of t) (length t.lines.now)) leaves.mode
+    ∙ ap₂ (act_calls s.mode) (ap (λ store. contents store.now) leaves.store) leaves.long

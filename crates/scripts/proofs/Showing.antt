@@ -20,7 +20,7 @@ use Rattle.fitch.specs.Records.{blank}
 use Rattle.fitch.specs.declared.rule.Reason.{Reason}
 use Rattle.ledger.specs.Recorded.{kept, no_line, Recorded}
 use Rattle.ledger.specs.declared.line.Line.{Line as ALine}
-use Rattle.scripts.specs.Proofs.{mode_of, Concluded, Derives, RunsAll, LinesOf}
+use Rattle.scripts.specs.Proofs.{mode_of, Concluded, RecordsShow, RunsAll, LinesOf}
 use Rattle.scripts.specs.Runs.{Stops}
 use Rattle.scripts.specs.Settled.{SameShown, SameAnswer, OneDerivation}
 use Rattle.scripts.proofs.Settling.{stops_once, runs_all_once}
@@ -73,13 +73,13 @@ module _ (fs : List Formula) (slice : ℕ) (xs : List (Said ℕ)) (h k : History
   never_both : (u : Fault) → RunsAll fs slice xs h None → RunsAll fs slice xs k (Some u) → ⊥
   never_both u p q = let same = (runs_all_once fs slice xs h k None (Some u) p q).1 in cc
 
-  shown_or_refused : (c : Checked) (u : Fault) → Derives fs slice xs h (Ok c) → Derives fs slice xs k (Err u) → ⊥
+  shown_or_refused : (c : Checked) (u : Fault) → RecordsShow fs slice xs h (Ok c) → RecordsShow fs slice xs k (Err u) → ⊥
   shown_or_refused c u p (inl stopped) = never_both u p.0 stopped
   shown_or_refused c u p (inr late) =
       let same = (runs_all_once fs slice xs h k None None p.0 late.0).0 in
       (one_answers.sequent h).apart late.1.0 p.1.0 (subst (λ j. Refused (sequent_checks j) late.1.0) (sym same) late.1.1)
 
-  same_fault : (u v : Fault) → Derives fs slice xs h (Err u) → Derives fs slice xs k (Err v) → (h ≡ k) × (u ≡ v)
+  same_fault : (u v : Fault) → RecordsShow fs slice xs h (Err u) → RecordsShow fs slice xs k (Err v) → (h ≡ k) × (u ≡ v)
   same_fault u v (inl p) (inl q) = let same = runs_all_once fs slice xs h k (Some u) (Some v) p q in (same.0, ap (fault_or u) same.1)
   same_fault u v (inl p) (inr q) = let same = (runs_all_once fs slice xs h k (Some u) None p q.0).1 in absurd (cc)
   same_fault u v (inr p) (inl q) = absurd (never_both v p.0 q)
@@ -87,7 +87,7 @@ module _ (fs : List Formula) (slice : ℕ) (xs : List (Said ℕ)) (h k : History
       let same = (runs_all_once fs slice xs h k None None p.0 q.0).0 in
       (same, stops_once (one_answers.sequent h) u v p.1 (subst (λ j. Stops (length xs) (sequent_checks j) v) (sym same) q.1))
 
-derives_once : (fs : List Formula) (slice : ℕ) (xs : List (Said ℕ)) (h k : History) (a b : Result Checked Fault) → Once fs → Derives fs slice xs h a → Derives fs slice xs k b → (h ≡ k) × SameAnswer a b
+derives_once : (fs : List Formula) (slice : ℕ) (xs : List (Said ℕ)) (h k : History) (a b : Result Checked Fault) → Once fs → RecordsShow fs slice xs h a → RecordsShow fs slice xs k b → (h ≡ k) × SameAnswer a b
 derives_once fs slice xs h k (Ok c) (Ok d) once p q =
     let same = (runs_all_once fs slice xs h k None None p.0 q.0).0 in
     (same, same_shown (length xs) once c d p.1 (subst (λ j. Concluded (mode_of xs) fs j (length xs) (Ok d)) (sym same) q.1))

@@ -10,10 +10,12 @@ use Rattle.fitch.specs.declared.mode.Mode.TheVariants.{Constructive}
 use Rattle.ledger.specs.Recorded.{Recorded}
 use Rattle.ledger.specs.Sequents.{SequentOf}
 use Rattle.ledger.specs.declared.line.Line.{Line}
+use Rattle.soundness.specs.Soundness.{Entails}
+use Rattle.verdicts.specs.Weighing.{premises_of, conclusion_of}
 use Rattle.entries.specs.Entries.{Said}
 use Rattle.answers.specs.declared.checked.Checked.{Checked}
 use Rattle.answers.specs.declared.fault.Fault.{Fault}
-use Rattle.scripts.specs.Runs.{premise_steps, act_steps, Stops, Runs}
+use Rattle.scripts.specs.Runs.{premise_calls, act_calls, Stops, Runs}
 
 -- the records that end the gathering
 abbrev pub acts : Said ℕ → Bool
@@ -40,12 +42,16 @@ back xs = drop (position_or_len acts xs) xs
 
 -- after the premises, which reached h: the others, unless a fault d stopped the premises
 abbrev pub GoesOn : List Formula → ℕ → List (Said ℕ) → History → Option Fault → History → Option Fault → Type 0
-GoesOn fs slice xs h None k e = Runs (act_steps (mode_of xs) fs slice) (begin ∷ h) (length (front xs) + 1) (back xs) k e
+GoesOn fs slice xs h None k e = Runs (act_calls (mode_of xs) fs slice) (begin ∷ h) (length (front xs) + 1) (back xs) k e
 GoesOn fs slice xs h (Some d) k e = (k ≡ h) × (e ≡ Some d)
 
 -- all records, numbered from 1, the premises and then the others: the history that they reach, and the fault that stopped them, if one did
 abbrev pub RunsAll : List Formula → ℕ → List (Said ℕ) → History → Option Fault → Type 0
-RunsAll fs slice xs k e = (h : History) × (d : Option Fault) × Runs (premise_steps fs slice) [] 1 (front xs) h d × GoesOn fs slice xs h d k e
+RunsAll fs slice xs k e = (h : History) × (d : Option Fault) × Runs (premise_calls fs slice) [] 1 (front xs) h d × GoesOn fs slice xs h d k e
+
+-- the premises of what is shown entail its conclusion
+abbrev pub Entailed : List Formula → Checked → Type 0
+Entailed fs c = Entails c.sequent.mode (premises_of fs c.sequent) (conclusion_of fs c.sequent)
 
 -- what a history of so many records shows, or why it shows nothing
 abbrev pub Concluded : Mode → List Formula → History → ℕ → Result Checked Fault → Type 0
@@ -53,9 +59,9 @@ Concluded mode fs h records (Ok c) = Accepted (sequent_checks h) × SequentOf mo
 Concluded mode fs h records (Err fault) = Stops records (sequent_checks h) fault
 
 -- the records reach h, and show this, or have this first fault: of a record, or of the sequent, which is told at the last record
-abbrev pub Derives : List Formula → ℕ → List (Said ℕ) → History → Result Checked Fault → Type 0
-Derives fs slice xs h (Ok c) = RunsAll fs slice xs h None × Concluded (mode_of xs) fs h (length xs) (Ok c)
-Derives fs slice xs h (Err fault) = RunsAll fs slice xs h (Some fault) ⊎ (RunsAll fs slice xs h None × Concluded (mode_of xs) fs h (length xs) (Err fault))
+abbrev pub RecordsShow : List Formula → ℕ → List (Said ℕ) → History → Result Checked Fault → Type 0
+RecordsShow fs slice xs h (Ok c) = RunsAll fs slice xs h None × Concluded (mode_of xs) fs h (length xs) (Ok c)
+RecordsShow fs slice xs h (Err fault) = RunsAll fs slice xs h (Some fault) ⊎ (RunsAll fs slice xs h None × Concluded (mode_of xs) fs h (length xs) (Err fault))
 
 -- the line records after a derivation whose history is h: its lines first, and the others as they were
 pub record LinesOf (fs : List Formula) (before after : List Line) (h : History) : Type 0 where
@@ -64,5 +70,5 @@ pub record LinesOf (fs : List Formula) (before after : List Line) (h : History) 
   pub rest : drop (count h) after ≡ drop (count h) before
 
 -- over a slice of line records, which are those before and then those after: what the records show, or their first fault, and the lines of the history that they reach
-abbrev pub DerivesOn : List Formula → List Line → List Line → List (Said ℕ) → Result Checked Fault → Type 0
-DerivesOn fs before after xs r = (h : History) × Derives fs (length before) xs h r × LinesOf fs before after h
+abbrev pub RecordsShowOn : List Formula → List Line → List Line → List (Said ℕ) → Result Checked Fault → Type 0
+RecordsShowOn fs before after xs r = (h : History) × RecordsShow fs (length before) xs h r × LinesOf fs before after h

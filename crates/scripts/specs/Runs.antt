@@ -18,7 +18,7 @@ use Rattle.answers.specs.declared.fault.Fault.TheVariants.{At}
 use Rattle.answers.specs.declared.fault.Reason.TheVariants as reasons
 
 -- how records are run: the checks of each, and the history after it; one that has no checks is passed over
-pub record Steps : Type 1 where
+pub record Calls : Type 1 where
   pub checks : History → Said ℕ → List Check
   pub after : History → Said ℕ → History
 
@@ -31,8 +31,8 @@ abbrev premise_after : List Formula → History → Said ℕ → History
 premise_after fs h (Said.premise p) = premise (formula_at fs p) ∷ h
 premise_after fs h _ = h
 
-abbrev pub premise_steps : List Formula → ℕ → Steps
-premise_steps fs slice = record { checks = premise_checked fs slice; after = premise_after fs }
+abbrev pub premise_calls : List Formula → ℕ → Calls
+premise_calls fs slice = record { checks = premise_checked fs slice; after = premise_after fs }
 
 -- once it is open
 abbrev act_checked : Mode → List Formula → ℕ → History → Said ℕ → List Check
@@ -47,15 +47,15 @@ act_after fs h (Said.step p r cs) = step (formula_at fs p) r cs ∷ h
 act_after fs h Said.close = close ∷ h
 act_after fs h _ = h
 
-abbrev pub act_steps : Mode → List Formula → ℕ → Steps
-act_steps mode fs slice = record { checks = act_checked mode fs slice; after = act_after fs }
+abbrev pub act_calls : Mode → List Formula → ℕ → Calls
+act_calls mode fs slice = record { checks = act_checked mode fs slice; after = act_after fs }
 
--- the steps of a derivation that gathers premises, and of one that is open
-abbrev pub steps_of : Gathering → Steps
-steps_of g = premise_steps (formulas_of (sheet_of g)) (length g.lines.now)
+-- the calls of a derivation that gathers premises, and of one that is open
+abbrev pub gathering_calls : Gathering → Calls
+gathering_calls g = premise_calls (formulas_of (sheet_of g)) (length g.lines.now)
 
-abbrev pub steps_in : Open → Steps
-steps_in o = act_steps (mode_in o) (formulas_of (sheet_in o)) (length o.lines.now)
+abbrev pub open_calls : Open → Calls
+open_calls o = act_calls (mode_in o) (formulas_of (sheet_in o)) (length o.lines.now)
 
 -- a refusal of the call that a record stands for, as the fault of that record
 abbrev pub refused_at : ℕ → Refusal → Fault
@@ -66,18 +66,18 @@ abbrev pub Stops : ℕ → List Check → Fault → Type 0
 Stops n cs fault = (e : Refusal) × Refused cs e × (fault ≡ refused_at n e)
 
 -- records from number n on, after h: the history that they reach, and the fault that stopped them, if one did
-pub data Runs (steps : Steps) : History → ℕ → List (Said ℕ) → History → Option Fault → Type 0 where
-  done : {h : History} {n : ℕ} → Runs steps h n [] h None
-  stop : {h : History} {n : ℕ} {x : Said ℕ} {xs : List (Said ℕ)} {fault : Fault} → Stops n (steps.checks h x) fault → Runs steps h n (x ∷ xs) h (Some fault)
+pub data Runs (calls : Calls) : History → ℕ → List (Said ℕ) → History → Option Fault → Type 0 where
+  done : {h : History} {n : ℕ} → Runs calls h n [] h None
+  stop : {h : History} {n : ℕ} {x : Said ℕ} {xs : List (Said ℕ)} {fault : Fault} → Stops n (calls.checks h x) fault → Runs calls h n (x ∷ xs) h (Some fault)
   next : {h k : History} {n : ℕ} {x : Said ℕ} {xs : List (Said ℕ)} {e : Option Fault}
-      → Accepted (steps.checks h x) → Runs steps (steps.after h x) (n + 1) xs k e → Runs steps h n (x ∷ xs) k e
+      → Accepted (calls.checks h x) → Runs calls (calls.after h x) (n + 1) xs k e → Runs calls h n (x ∷ xs) k e
 
 -- one record, as the code runs it: the state has then the history after it, or the one before it, where the fault is its refusal
-abbrev pub RanOne : Steps → (History → Type 0) → History → ℕ → Said ℕ → Result Unit Fault → Type 0
-RanOne steps Has h n x (Ok u) = Accepted (steps.checks h x) × Has (steps.after h x)
-RanOne steps Has h n x (Err fault) = Stops n (steps.checks h x) fault × Has h
+abbrev pub RanOne : Calls → (History → Type 0) → History → ℕ → Said ℕ → Result Unit Fault → Type 0
+RanOne calls Has h n x (Ok u) = Accepted (calls.checks h x) × Has (calls.after h x)
+RanOne calls Has h n x (Err fault) = Stops n (calls.checks h x) fault × Has h
 
 -- records, as the code runs them: the state has then the history that they reach
-abbrev pub Ran : Steps → (History → Type 0) → History → ℕ → List (Said ℕ) → Result Unit Fault → Type 0
-Ran steps Has h n xs (Ok u) = (k : History) × Runs steps h n xs k None × Has k
-Ran steps Has h n xs (Err fault) = (k : History) × Runs steps h n xs k (Some fault) × Has k
+abbrev pub Ran : Calls → (History → Type 0) → History → ℕ → List (Said ℕ) → Result Unit Fault → Type 0
+Ran calls Has h n xs (Ok u) = (k : History) × Runs calls h n xs k None × Has k
+Ran calls Has h n xs (Err fault) = (k : History) × Runs calls h n xs k (Some fault) × Has k

@@ -8,7 +8,7 @@ use Rattle.ledger.specs.declared.line.Line.{Line}
 use Rattle.entries.specs.Entries.{Said}
 use Rattle.answers.specs.declared.checked.Checked.{Checked}
 use Rattle.answers.specs.declared.fault.Fault.{Fault}
-use Rattle.scripts.specs.Proofs.{RunsAll, Derives, LinesOf}
+use Rattle.scripts.specs.Proofs.{RunsAll, RecordsShow, LinesOf}
 
 -- the same in all that is told
 pub record SameShown (c d : Checked) : Type 0 where
@@ -30,5 +30,5 @@ pub record OneDerivation : Type 0 where
       → RunsAll fs slice xs h d → RunsAll fs slice xs k e → (h ≡ k) × (d ≡ e)
   pub answers :
       (fs : List Formula) (slice : ℕ) (xs : List (Said ℕ)) (h k : History) (a b : Result Checked Fault)
-      → Once fs → Derives fs slice xs h a → Derives fs slice xs k b → (h ≡ k) × SameAnswer a b
+      → Once fs → RecordsShow fs slice xs h a → RecordsShow fs slice xs k b → (h ≡ k) × SameAnswer a b
   pub lines : (fs : List Formula) → Once fs → (before a b : List Line) (h : History) → LinesOf fs before a h → LinesOf fs before b h → a ≡ b

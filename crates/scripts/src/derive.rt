@@ -2,13 +2,10 @@
 ghost use Rattle.std.specs.Prelude.{◌≡◌, ◌≤◌, length, map, position, IfOk};
 ghost use Rattle.std.specs.List.{position_or_len};
 ghost use Rattle.formulas.specs.Stores.{contents};
-ghost use Rattle.grammar.specs.Contents.{formula_at};
-ghost use Rattle.ledger.specs.Sequents.{premise_places};
-ghost use Rattle.soundness.specs.Soundness.{Entails};
 ghost use Rattle.entries.specs.Entries.{stored};
 ghost use Rattle.fitch.specs.History.{History};
 ghost use Rattle.derivations.specs.Finished.{mode_by, Finished, formulas_by};
-ghost use Rattle.scripts.specs.Proofs.{acts, mode_of, Concluded, DerivesOn};
+ghost use Rattle.scripts.specs.Proofs.{acts, mode_of, Entailed, Concluded, RecordsShowOn};
 
 use crate::run::acts::act_all;
 use crate::run::premises::gather;
@@ -59,7 +56,7 @@ fn count_front(entries: &[Entry<usize>]) -> usize
 // What a sealed derivation of so many records shows; a fault of the sequent is told at the last of them.
 fn conclude(derivation: &Sealed, records: usize) -> Result<Checked, Fault>
     ensures exact { (h : History) → Finished derivation.now h → Concluded (mode_by derivation.now) (formulas_by derivation.now) h records result }
-    ensures entails { IfOk result (λ c. Entails c.sequent.mode (map (formula_at (formulas_by derivation.now)) (premise_places c.sequent)) (formula_at (formulas_by derivation.now) c.sequent.conclusion)) }
+    ensures entails { IfOk result (Entailed (formulas_by derivation.now)) }
 {
     let sequent = derivation
         .sequent()
@@ -73,8 +70,8 @@ fn conclude(derivation: &Sealed, records: usize) -> Result<Checked, Fault>
 // Writes a derivation by the records of a proof file, numbered from 1, over the store of their formulas: what it shows, or the first fault.
 // Each state is taken apart and the next put together here, as `open` and `seal` do: of a slice that a call hands on, its owner would know nothing in the end.
 pub fn derive(store: &Store, lines: &mut [Line], entries: &[Entry<usize>]) -> Result<Checked, Fault>
-    ensures exact { DerivesOn (contents store.now) lines.old lines.new (map stored entries.now) result }
-    ensures entails { IfOk result (λ c. Entails c.sequent.mode (map (formula_at (contents store.now)) (premise_places c.sequent)) (formula_at (contents store.now) c.sequent.conclusion)) }
+    ensures exact { RecordsShowOn (contents store.now) lines.old lines.new (map stored entries.now) result }
+    ensures entails { IfOk result (Entailed (contents store.now)) }
 {
     let (front, back) = entries.split_at(count_front(entries));
     let mut gathering = Gathering::new(store, lines, mode_of(entries));

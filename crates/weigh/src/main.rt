@@ -2,7 +2,7 @@
 #![tactic(auto)]
 
 use answer_lines::weigh::weigh_line;
-use console::limits::{LINES, LONGEST_LINE, MOST_READ, RECORDS};
+use console::limits::{LINE_RECORDS, ANSWER_ROOM, MOST_READ, STORE_RECORDS};
 use console::{fill, write_line};
 use entries::entry::Entry;
 use formulas::store::Store;
@@ -17,14 +17,14 @@ fn main(rt: HostRuntime) -> anyhow::Result<()> {
     let mut input = vec![in rt.alloc(); 0; MOST_READ]?;
     let length = fill(&mut rt.reader(), &mut input)?;
     let input = &input[..length];
-    let mut store = Store::new(vec![in rt.alloc(); Node::Falsum; RECORDS]?).map_err(
+    let mut store = Store::new(vec![in rt.alloc(); Node::Falsum; STORE_RECORDS]?).map_err(
         |_| anyhow::anyhow!("too few records for a store"),
     )?;
     let count = Records { rest: input }.count();
     let mut entries = vec![in rt.alloc(); Entry::Close; count]?;
-    let mut lines = vec![in rt.alloc(); BLANK; LINES]?;
-    let mut values = vec![in rt.alloc(); 0; RECORDS]?;
-    let mut printed = vec![in rt.alloc(); 0; LONGEST_LINE]?;
+    let mut lines = vec![in rt.alloc(); BLANK; LINE_RECORDS]?;
+    let mut values = vec![in rt.alloc(); 0; STORE_RECORDS]?;
+    let mut printed = vec![in rt.alloc(); 0; ANSWER_ROOM]?;
     let written = weigh_line(
         &mut store,
         &mut entries,

@@ -10,10 +10,10 @@ use Rattle.entries.specs.declared.turn.Format.TheVariants.{Weighing}
 use Rattle.answers.specs.declared.checked.Checked.{Checked}
 use Rattle.answers.specs.declared.fault.Fault.{Fault}
 use Rattle.answers.specs.declared.unanswered.Unanswered.{Unanswered}
-use Rattle.answers.specs.declared.unanswered.Unanswered.TheVariants.{ShortEntries, NotStored, ShortBuffer, Faulty}
+use Rattle.answers.specs.declared.unanswered.Unanswered.TheVariants.{ShortEntries, NotStored, ShortValues, Faulty}
 use Rattle.readings.specs.Answers.{InputRead}
 use Rattle.readings.proofs.Turning.{all_in_turn}
-use Rattle.scripts.specs.Proofs.{mode_of, DerivesOn}
+use Rattle.scripts.specs.Proofs.{mode_of, RecordsShowOn}
 use Rattle.soundness.specs.Soundness.{Entails}
 use Rattle.verdicts.specs.Weighing.{premises_of, conclusion_of, Confirms}
 use Rattle.verdicts.specs.declared.verdict.Verdict.{Verdict}
@@ -23,21 +23,21 @@ use Rattle.algebra_files.specs.Meant.{Means}
 use Rattle.algebra_files.specs.Outcomes.{Outcome, WeighedInFile}
 use Rattle.algebra_files.proofs.Agreeing.{settled}
 use Rattle.weighing_files.specs.Unique.{Answers}
-use Rattle.weighing_files.specs.Weighing.{proof_part, algebra_part, Weighs, Confirmed}
+use Rattle.weighing_files.specs.Weighing.{proof_part, algebra_part, WeighsInput, Confirmed}
 use Rattle.weighing_files.proofs.Settling.{one_weighing}
 use Rattle.weighing_files.proofs.Tails.{algebra_written}
 use Rattle.weighing_files.proofs.Telling.{always_stored}
 
 module _ (cap : ℕ) (s : List ℕ) (fs gs : List Formula) (es es_then : List (Entry ℕ)) (once : Once fs) where
   the_one :
-      (ls ls_then : List Line) (vs vs_then : List ℕ) (r : Result Verdict Unanswered) → Weighs cap s fs gs es es_then ls ls_then vs vs_then r → Answers cap s fs gs es es_then ls ls_then vs vs_then r
+      (ls ls_then : List Line) (vs vs_then : List ℕ) (r : Result Verdict Unanswered) → WeighsInput cap s fs gs es es_then ls ls_then vs vs_then r → Answers cap s fs gs es es_then ls ls_then vs vs_then r
   the_one ls ls_then vs vs_then r weighs = record { weighs = weighs; only = one_weighing cap s fs gs es es_then ls ls_then vs vs_then r once weighs; stored = always_stored weighs }
 
-  unanswered : (ls : List Line) (vs : List ℕ) (why : Unanswered) → InputRead cap Weighing s fs gs es es_then (Err why) → Weighs cap s fs gs es es_then ls ls vs vs (Err why)
-  unanswered ls vs ShortEntries none = Weighs.no_room none refl refl
+  unanswered : (ls : List Line) (vs : List ℕ) (why : Unanswered) → InputRead cap Weighing s fs gs es es_then (Err why) → WeighsInput cap s fs gs es es_then ls ls vs vs (Err why)
+  unanswered ls vs ShortEntries none = WeighsInput.no_room none refl refl
   unanswered ls vs NotStored h = absurd h
-  unanswered ls vs ShortBuffer h = absurd h
-  unanswered ls vs (Faulty fault) says = Weighs.not_read says.0 fault says.1 refl refl
+  unanswered ls vs ShortValues h = absurd h
+  unanswered ls vs (Faulty fault) says = WeighsInput.not_read says.0 fault says.1 refl refl
 
   pub not_read : (ls : List Line) (vs : List ℕ) (why : Unanswered) → InputRead cap Weighing s fs gs es es_then (Err why) → Answers cap s fs gs es es_then ls ls vs vs (Err why)
   not_read ls vs why read = the_one ls ls vs vs (Err why) (unanswered ls vs why read)
@@ -57,19 +57,19 @@ module _ (cap : ℕ) (s : List ℕ) (fs gs : List Formula) (es es_then : List (E
     algebra_said : map stored algebra ≡ algebra_part xs
     algebra_said = algebra_is ∙ ap algebra_part said
 
-    derives_said : (r : Result Checked Fault) → DerivesOn gs ls ls_then (map stored proof) r → DerivesOn gs ls ls_then (proof_part xs) r
-    derives_said r derives = subst (λ ys. DerivesOn gs ls ls_then ys r) proof_said derives
+    derives_said : (r : Result Checked Fault) → RecordsShowOn gs ls ls_then (map stored proof) r → RecordsShowOn gs ls ls_then (proof_part xs) r
+    derives_said r derives = subst (λ ys. RecordsShowOn gs ls ls_then ys r) proof_said derives
 
-    pub not_derived : (vs : List ℕ) (fault : Fault) → DerivesOn gs ls ls_then (map stored proof) (Err fault) → Answers cap s fs gs es es_then ls ls_then vs vs (Err (Faulty fault))
-    not_derived vs fault derives = the_one ls ls_then vs vs (Err (Faulty fault)) (Weighs.not_derived xs fault says.1 (derives_said (Err fault) derives) refl)
+    pub not_derived : (vs : List ℕ) (fault : Fault) → RecordsShowOn gs ls ls_then (map stored proof) (Err fault) → Answers cap s fs gs es es_then ls ls_then vs vs (Err (Faulty fault))
+    not_derived vs fault derives = the_one ls ls_then vs vs (Err (Faulty fault)) (WeighsInput.not_derived xs fault says.1 (derives_said (Err fault) derives) refl)
 
-    module _ (vs vs_then : List ℕ) (c : Checked) (derives : DerivesOn gs ls ls_then (map stored proof) (Ok c)) (r : Result Verdict Unanswered) where
-      weighed_in : (f : File) → map stored algebra ≡ written f → Outcome (Means f) (FileFault (length proof + 2) f) gs f.values c.sequent vs vs_then r → Weighs cap s fs gs es es_then ls ls_then vs vs_then r
+    module _ (vs vs_then : List ℕ) (c : Checked) (derives : RecordsShowOn gs ls ls_then (map stored proof) (Ok c)) (r : Result Verdict Unanswered) where
+      weighed_in : (f : File) → map stored algebra ≡ written f → Outcome (Means f) (FileFault (length proof + 2) f) gs f.values c.sequent vs vs_then r → WeighsInput cap s fs gs es es_then ls ls_then vs vs_then r
       weighed_in f is outcome =
-          Weighs.derived xs c f r says.1 (derives_said (Ok c) derives) (sym algebra_said ∙ is)
+          WeighsInput.derived xs c f r says.1 (derives_said (Ok c) derives) (sym algebra_said ∙ is)
           (subst (λ k. Outcome (Means f) (FileFault (k + 2) f) gs f.values c.sequent vs vs_then r) (sym (length-map proof stored) ∙ ap length proof_said) outcome)
 
-      weighed : WeighedInFile (length proof + 2) (map stored algebra) gs c.sequent vs vs_then r → Weighs cap s fs gs es es_then ls ls_then vs vs_then r
+      weighed : WeighedInFile (length proof + 2) (map stored algebra) gs c.sequent vs vs_then r → WeighsInput cap s fs gs es es_then ls ls_then vs vs_then r
       weighed (WeighedInFile.file f is outcome) = weighed_in f is outcome
       weighed (WeighedInFile.none never is same) = let turn = algebra_written (all_in_turn cap Weighing s fs gs xs says.1.says) in absurd (never turn.0 (algebra_said ∙ turn.1))
 

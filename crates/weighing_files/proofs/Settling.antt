@@ -10,7 +10,7 @@ use Rattle.answers.specs.declared.unanswered.Unanswered.{Unanswered}
 use Rattle.answers.specs.declared.unanswered.Unanswered.TheVariants.{Faulty}
 use Rattle.readings.specs.Answers.{Kept}
 use Rattle.readings.proofs.Settling.{kept_once, says_once, room_or_not, fault_or_none, same_fault}
-use Rattle.scripts.specs.Proofs.{DerivesOn, LinesOf}
+use Rattle.scripts.specs.Proofs.{RecordsShowOn, LinesOf}
 use Rattle.scripts.specs.Settled.{SameAnswer}
 use Rattle.scripts.proofs.Showing.{one_derivation}
 use Rattle.grammar.specs.Contents.{Once}
@@ -22,14 +22,14 @@ use Rattle.algebra_files.specs.Outcomes.{Outcome}
 use Rattle.algebra_files.proofs.Agreeing.{settled}
 use Rattle.weighing_files.proofs.Alike.{outcome_alike}
 use Rattle.weighing_files.specs.Unique.{OneAnswer}
-use Rattle.weighing_files.specs.Weighing.{proof_part, algebra_part, Weighs}
+use Rattle.weighing_files.specs.Weighing.{proof_part, algebra_part, WeighsInput}
 
 -- the same records show the same, and leave the same lines
 one_shown :
     {gs hs : List Formula} {xs ys : List (Said ℕ)} (ls ls_a ls_b : List Line) (a b : Result Checked Fault)
-    → Once gs → gs ≡ hs → xs ≡ ys → DerivesOn gs ls ls_a (proof_part xs) a → DerivesOn hs ls ls_b (proof_part ys) b → SameAnswer a b × (ls_a ≡ ls_b)
+    → Once gs → gs ≡ hs → xs ≡ ys → RecordsShowOn gs ls ls_a (proof_part xs) a → RecordsShowOn hs ls ls_b (proof_part ys) b → SameAnswer a b × (ls_a ≡ ls_b)
 one_shown {gs} {xs = xs} ls ls_a ls_b a b once stores records p q =
-    let there : DerivesOn gs ls ls_b (proof_part xs) b = subst₂ (λ ks zs. DerivesOn ks ls ls_b (proof_part zs) b) (sym stores) (sym records) q in
+    let there : RecordsShowOn gs ls ls_b (proof_part xs) b = subst₂ (λ ks zs. RecordsShowOn ks ls ls_b (proof_part zs) b) (sym stores) (sym records) q in
     let one = one_derivation.answers gs (length ls) (proof_part xs) p.0 there.0 a b once p.1 there.1 in
     (one.1, one_derivation.lines gs once ls ls_a ls_b p.0 p.2 (subst (λ h. LinesOf gs ls ls_b h) (sym one.0) there.2))
 
@@ -54,31 +54,31 @@ entered : {xs ys : List (Said ℕ)} {es a b : List (Entry ℕ)} → xs ≡ ys �
 entered {es = es} {b = b} same p q = kept_once p (subst (λ zs. Kept zs es b) (sym same) q)
 
 pub one_weighing : OneAnswer
-one_weighing n s fs gs es ea ls la vs va r once (Weighs.no_room none p a) hs eb lb vb q (Weighs.no_room also t b) = (refl, none.formulas ∙ sym also.formulas, a ∙ sym b, ap (map stored) (none.entries ∙ sym also.entries), p ∙ sym t)
-one_weighing n s fs gs es ea ls la vs va r once (Weighs.no_room none p a) hs eb lb vb q (Weighs.not_read ys fault says t b) = absurd (room_or_not none says)
-one_weighing n s fs gs es ea ls la vs va r once (Weighs.no_room none p a) hs eb lb vb q (Weighs.not_derived ys fault says t b) = absurd (room_or_not none says)
-one_weighing n s fs gs es ea ls la vs va r once (Weighs.no_room none p a) hs eb lb vb q (Weighs.derived ys d g t says shows is b) = absurd (room_or_not none says)
-one_weighing n s fs gs es ea ls la vs va r once (Weighs.not_read xs fault says p a) hs eb lb vb q (Weighs.no_room none t b) = absurd (room_or_not none says)
-one_weighing n s fs gs es ea ls la vs va r once (Weighs.not_read xs fault says p a) hs eb lb vb q (Weighs.not_read ys other also t b) =
+one_weighing n s fs gs es ea ls la vs va r once (WeighsInput.no_room none p a) hs eb lb vb q (WeighsInput.no_room also t b) = (refl, none.formulas ∙ sym also.formulas, a ∙ sym b, ap (map stored) (none.entries ∙ sym also.entries), p ∙ sym t)
+one_weighing n s fs gs es ea ls la vs va r once (WeighsInput.no_room none p a) hs eb lb vb q (WeighsInput.not_read ys fault says t b) = absurd (room_or_not none says)
+one_weighing n s fs gs es ea ls la vs va r once (WeighsInput.no_room none p a) hs eb lb vb q (WeighsInput.not_derived ys fault says t b) = absurd (room_or_not none says)
+one_weighing n s fs gs es ea ls la vs va r once (WeighsInput.no_room none p a) hs eb lb vb q (WeighsInput.derived ys d g t says shows is b) = absurd (room_or_not none says)
+one_weighing n s fs gs es ea ls la vs va r once (WeighsInput.not_read xs fault says p a) hs eb lb vb q (WeighsInput.no_room none t b) = absurd (room_or_not none says)
+one_weighing n s fs gs es ea ls la vs va r once (WeighsInput.not_read xs fault says p a) hs eb lb vb q (WeighsInput.not_read ys other also t b) =
     let same = says.only hs ys (Some other) also.says in
     (ap (λ x. Err (Faulty x)) (same_fault same.2), same.0, a ∙ sym b, entered same.1 says.kept also.kept, p ∙ sym t)
-one_weighing n s fs gs es ea ls la vs va r once (Weighs.not_read xs fault says p a) hs eb lb vb q (Weighs.not_derived ys other also t b) = absurd (fault_or_none (says.only hs ys None also.says).2)
-one_weighing n s fs gs es ea ls la vs va r once (Weighs.not_read xs fault says p a) hs eb lb vb q (Weighs.derived ys d g t also shows is b) = absurd (fault_or_none (says.only hs ys None also.says).2)
-one_weighing n s fs gs es ea ls la vs va r once (Weighs.not_derived xs fault says p a) hs eb lb vb q (Weighs.no_room none t b) = absurd (room_or_not none says)
-one_weighing n s fs gs es ea ls la vs va r once (Weighs.not_derived xs fault says p a) hs eb lb vb q (Weighs.not_read ys other also t b) = absurd (fault_or_none (sym (says.only hs ys (Some other) also.says).2))
-one_weighing n s fs gs es ea ls la vs va r once (Weighs.not_derived xs fault says p a) hs eb lb vb q (Weighs.not_derived ys other also t b) =
+one_weighing n s fs gs es ea ls la vs va r once (WeighsInput.not_read xs fault says p a) hs eb lb vb q (WeighsInput.not_derived ys other also t b) = absurd (fault_or_none (says.only hs ys None also.says).2)
+one_weighing n s fs gs es ea ls la vs va r once (WeighsInput.not_read xs fault says p a) hs eb lb vb q (WeighsInput.derived ys d g t also shows is b) = absurd (fault_or_none (says.only hs ys None also.says).2)
+one_weighing n s fs gs es ea ls la vs va r once (WeighsInput.not_derived xs fault says p a) hs eb lb vb q (WeighsInput.no_room none t b) = absurd (room_or_not none says)
+one_weighing n s fs gs es ea ls la vs va r once (WeighsInput.not_derived xs fault says p a) hs eb lb vb q (WeighsInput.not_read ys other also t b) = absurd (fault_or_none (sym (says.only hs ys (Some other) also.says).2))
+one_weighing n s fs gs es ea ls la vs va r once (WeighsInput.not_derived xs fault says p a) hs eb lb vb q (WeighsInput.not_derived ys other also t b) =
     let same = says.only hs ys None also.says in
     let one = one_shown ls la lb (Err fault) (Err other) (says_once once says.says) same.0 same.1 p t in
     (ap (λ x. Err (Faulty x)) one.0, same.0, a ∙ sym b, entered same.1 says.kept also.kept, one.1)
-one_weighing n s fs gs es ea ls la vs va r once (Weighs.not_derived xs fault says p a) hs eb lb vb q (Weighs.derived ys d g t also shows is b) =
+one_weighing n s fs gs es ea ls la vs va r once (WeighsInput.not_derived xs fault says p a) hs eb lb vb q (WeighsInput.derived ys d g t also shows is b) =
     let same = says.only hs ys None also.says in
     absurd ((one_shown ls la lb (Err fault) (Ok d) (says_once once says.says) same.0 same.1 p shows).0)
-one_weighing n s fs gs es ea ls la vs va r once (Weighs.derived xs c f p says shows is a) hs eb lb vb q (Weighs.no_room none t b) = absurd (room_or_not none says)
-one_weighing n s fs gs es ea ls la vs va r once (Weighs.derived xs c f p says shows is a) hs eb lb vb q (Weighs.not_read ys other also t b) = absurd (fault_or_none (sym (says.only hs ys (Some other) also.says).2))
-one_weighing n s fs gs es ea ls la vs va r once (Weighs.derived xs c f p says shows is a) hs eb lb vb q (Weighs.not_derived ys other also t b) =
+one_weighing n s fs gs es ea ls la vs va r once (WeighsInput.derived xs c f p says shows is a) hs eb lb vb q (WeighsInput.no_room none t b) = absurd (room_or_not none says)
+one_weighing n s fs gs es ea ls la vs va r once (WeighsInput.derived xs c f p says shows is a) hs eb lb vb q (WeighsInput.not_read ys other also t b) = absurd (fault_or_none (sym (says.only hs ys (Some other) also.says).2))
+one_weighing n s fs gs es ea ls la vs va r once (WeighsInput.derived xs c f p says shows is a) hs eb lb vb q (WeighsInput.not_derived ys other also t b) =
     let same = says.only hs ys None also.says in
     absurd ((one_shown ls la lb (Ok c) (Err other) (says_once once says.says) same.0 same.1 shows t).0)
-one_weighing n s fs gs es ea ls la vs va r once (Weighs.derived xs c f p says shows is a) hs eb lb vb q (Weighs.derived ys d g t also shows_too is_too b) =
+one_weighing n s fs gs es ea ls la vs va r once (WeighsInput.derived xs c f p says shows is a) hs eb lb vb q (WeighsInput.derived ys d g t also shows_too is_too b) =
     let same = says.only hs ys None also.says in
     let shown = one_shown ls la lb (Ok c) (Ok d) (says_once once says.says) same.0 same.1 shows shows_too in
     let one = one_weighed f g c d vs va vb r q same.0 same.1 is is_too shown.0 a b in

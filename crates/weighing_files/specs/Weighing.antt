@@ -13,7 +13,7 @@ use Rattle.answers.specs.declared.unanswered.Unanswered.{Unanswered}
 use Rattle.answers.specs.declared.unanswered.Unanswered.TheVariants.{ShortEntries, Faulty}
 use Rattle.readings.specs.Answers.{NoRoom, SaysInto}
 use Rattle.readings.specs.Reading.{InputSays}
-use Rattle.scripts.specs.Proofs.{mode_of, DerivesOn}
+use Rattle.scripts.specs.Proofs.{mode_of, RecordsShowOn}
 use Rattle.verdicts.specs.Weighing.{Confirms}
 use Rattle.verdicts.specs.declared.verdict.Verdict.{Verdict}
 use Rattle.algebra_files.specs.Faults.{FileFault}
@@ -33,22 +33,22 @@ abbrev pub algebra_part : List (Said ℕ) → List (Said ℕ)
 algebra_part xs = drop (position_or_len separates xs + 1) xs
 
 -- an input s, read into a store that held fs and then holds gs, into entries, with line records and a buffer for values:
--- the verdict, or the first fault; one of a record comes before any of a line or of the sequent, and these before any of the algebra
-pub data Weighs (capacity : ℕ) (s : List ℕ) (fs gs : List Formula) (entries entries_then : List (Entry ℕ)) (lines lines_then : List Line) (values values_then : List ℕ) : Result Verdict Unanswered → Type 0 where
+-- the verdict, or the first fault, or that the entries or the values are too few; a fault of a record comes before any of a line or of the sequent, and these before any of the algebra
+pub data WeighsInput (capacity : ℕ) (s : List ℕ) (fs gs : List Formula) (entries entries_then : List (Entry ℕ)) (lines lines_then : List Line) (values values_then : List ℕ) : Result Verdict Unanswered → Type 0 where
   no_room :
       NoRoom s fs gs entries entries_then → lines_then ≡ lines → values_then ≡ values
-      → Weighs capacity s fs gs entries entries_then lines lines_then values values_then (Err ShortEntries)
+      → WeighsInput capacity s fs gs entries entries_then lines lines_then values values_then (Err ShortEntries)
   not_read :
       (xs : List (Said ℕ)) (fault : Fault) → SaysInto capacity Weighing s fs gs entries entries_then xs (Some fault) → lines_then ≡ lines → values_then ≡ values
-      → Weighs capacity s fs gs entries entries_then lines lines_then values values_then (Err (Faulty fault))
+      → WeighsInput capacity s fs gs entries entries_then lines lines_then values values_then (Err (Faulty fault))
   not_derived :
-      (xs : List (Said ℕ)) (fault : Fault) → SaysInto capacity Weighing s fs gs entries entries_then xs None → DerivesOn gs lines lines_then (proof_part xs) (Err fault) → values_then ≡ values
-      → Weighs capacity s fs gs entries entries_then lines lines_then values values_then (Err (Faulty fault))
+      (xs : List (Said ℕ)) (fault : Fault) → SaysInto capacity Weighing s fs gs entries entries_then xs None → RecordsShowOn gs lines lines_then (proof_part xs) (Err fault) → values_then ≡ values
+      → WeighsInput capacity s fs gs entries entries_then lines lines_then values values_then (Err (Faulty fault))
   derived :
       (xs : List (Said ℕ)) (c : Checked) (f : File) (r : Result Verdict Unanswered) → SaysInto capacity Weighing s fs gs entries entries_then xs None
-      → DerivesOn gs lines lines_then (proof_part xs) (Ok c) → algebra_part xs ≡ written f
+      → RecordsShowOn gs lines lines_then (proof_part xs) (Ok c) → algebra_part xs ≡ written f
       → Outcome (Means f) (FileFault (length (proof_part xs) + 2) f) gs f.values c.sequent values values_then r
-      → Weighs capacity s fs gs entries entries_then lines lines_then values values_then r
+      → WeighsInput capacity s fs gs entries entries_then lines lines_then values values_then r
 
 -- in the algebra that the file means (that there is one is told by `derived`), a verdict confirms what the proof file shows: it holds of a constructive one, and of the double negation of what a classical one shows
 abbrev pub Confirmed : ℕ → List ℕ → List Formula → Result Verdict Unanswered → Type 0

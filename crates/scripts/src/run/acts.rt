@@ -5,7 +5,7 @@ ghost use Rattle.fitch.specs.History.{History, step as next_step};
 ghost use Rattle.derivations.specs.Derived.{sheet_in, Derived, Leaves, checks_of_step};
 ghost use Rattle.derivations.specs.Sheets.{formula_of};
 ghost use Rattle.entries.specs.Entries.{cited, stored};
-ghost use Rattle.scripts.specs.Runs.{steps_in, Ran, RanOne};
+ghost use Rattle.scripts.specs.Runs.{open_calls, Ran, RanOne};
 
 use answers::fault::{Fault, Reason};
 use derivations::open::Open;
@@ -31,7 +31,7 @@ fn step(
 
 // One record; one that is no assumption, step or close is passed over.
 fn act(derivation: &mut Open, entry: Entry<usize>) -> Result<(), Refusal>
-    ensures ran { (h : History) → Derived derivation.old h → MatchResult result (λ _. Accepted ((steps_in derivation.old).checks h (stored entry)) × Derived derivation.new ((steps_in derivation.old).after h (stored entry))) (Refused ((steps_in derivation.old).checks h (stored entry))) }
+    ensures ran { (h : History) → Derived derivation.old h → MatchResult result (λ _. Accepted ((open_calls derivation.old).checks h (stored entry)) × Derived derivation.new ((open_calls derivation.old).after h (stored entry))) (Refused ((open_calls derivation.old).checks h (stored entry))) }
     ensures leaves { Leaves derivation.old derivation.new }
     ensures unchanged { OnErr result (derivation.new ≡ derivation.old) }
 {
@@ -48,7 +48,7 @@ fn act(derivation: &mut Open, entry: Entry<usize>) -> Result<(), Refusal>
 
 // The record of a number.
 fn act_one(derivation: &mut Open, entry: Entry<usize>, number: usize) -> Result<(), Fault>
-    ensures ran { (h : History) → Derived derivation.old h → RanOne (steps_in derivation.old) (Derived derivation.new) h number (stored entry) result }
+    ensures ran { (h : History) → Derived derivation.old h → RanOne (open_calls derivation.old) (Derived derivation.new) h number (stored entry) result }
     ensures leaves { Leaves derivation.old derivation.new }
 {
     act(derivation, entry).map_err(|refusal| Fault::At(number, Reason::Derivation(refusal)))
@@ -60,7 +60,7 @@ pub(crate) fn act_all(
     first: usize,
 ) -> Result<(), Fault>
     requires { first + length entries.now < 2 ^ 64 }
-    ensures ran { (h : History) → Derived derivation.old h → Ran (steps_in derivation.old) (Derived derivation.new) h first (map stored entries.now) result }
+    ensures ran { (h : History) → Derived derivation.old h → Ran (open_calls derivation.old) (Derived derivation.new) h first (map stored entries.now) result }
     ensures leaves { Leaves derivation.old derivation.new }
 {
     for (place, entry) in entries.iter().enumerate() {

@@ -4,7 +4,7 @@ ghost use Rattle.fitch.specs.History.{History};
 ghost use Rattle.derivations.specs.Gathered.{sheet_of, Gathered};
 ghost use Rattle.derivations.specs.Sheets.{Leaves};
 ghost use Rattle.entries.specs.Entries.{stored};
-ghost use Rattle.scripts.specs.Runs.{steps_of, Ran, RanOne};
+ghost use Rattle.scripts.specs.Runs.{gathering_calls, Ran, RanOne};
 
 use answers::fault::{Fault, Reason};
 use derivations::gathering::Gathering;
@@ -12,7 +12,7 @@ use entries::entry::Entry;
 
 // One record, of a number; one that is no premise is passed over.
 fn gather_one(gathering: &mut Gathering, entry: Entry<usize>, number: usize) -> Result<(), Fault>
-    ensures ran { (h : History) → Gathered gathering.old h → RanOne (steps_of gathering.old) (Gathered gathering.new) h number (stored entry) result }
+    ensures ran { (h : History) → Gathered gathering.old h → RanOne (gathering_calls gathering.old) (Gathered gathering.new) h number (stored entry) result }
     ensures leaves { Leaves (sheet_of gathering.old) (sheet_of gathering.new) }
 {
     if let Entry::Premise(place) = entry {
@@ -29,7 +29,7 @@ pub(crate) fn gather(
     first: usize,
 ) -> Result<(), Fault>
     requires { first + length entries.now < 2 ^ 64 }
-    ensures ran { (h : History) → Gathered gathering.old h → Ran (steps_of gathering.old) (Gathered gathering.new) h first (map stored entries.now) result }
+    ensures ran { (h : History) → Gathered gathering.old h → Ran (gathering_calls gathering.old) (Gathered gathering.new) h first (map stored entries.now) result }
     ensures leaves { Leaves (sheet_of gathering.old) (sheet_of gathering.new) }
 {
     for (place, entry) in entries.iter().enumerate() {

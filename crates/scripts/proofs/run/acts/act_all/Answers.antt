@@ -3,8 +3,8 @@ use Rattle.std.proofs.lemmas.Grind.{common_steps}
 use Rattle.std.proofs.lemmas.List.{length-map}
 use Rattle.derivations.specs.Derived.{Derived}
 use Rattle.entries.specs.Entries.{stored}
-use Rattle.scripts.specs.Runs.{steps_in, RanOne}
-use Rattle.scripts.proofs.Running.{leave_on_open, no_entry, one_more, stopped_by, all_run, at_hand, same_act_steps}
+use Rattle.scripts.specs.Runs.{open_calls, RanOne}
+use Rattle.scripts.proofs.Running.{leave_on_open, no_entry, one_more, stopped_by, all_run, at_hand, same_act_calls}
 use Rattle.scripts.proofs.run.acts.act_all.Goals as goal
 
 pub returns-in_err-act_one-clause-ran : goal.returns-in_err-act_one-clause-ran
@@ -14,8 +14,8 @@ returns-in_err-act_one-clause-ran c h g =
     let fault = c.in_err-act_one.field-0.0 in
     let x = stored (get_or c.args.entries.now l.place no_entry) in
     let refused : c.from_residual.result ≡ Err fault = grind (arith, common_steps) in
-    let ran = subst (λ st. RanOne st (Derived c.act_one.new.derivation) before.0 (c.args.first + l.place) x (Err fault)) (same_act_steps l.invariant.leaves.sheet) (c.in_err-act_one.ensures.ran before.0 before.2) in
-    rw refused (stopped_by (steps_in c.args.derivation.now) c.args.first (map stored c.args.entries.now) (Derived c.act_one.new.derivation) h before.0 l.place x fault (at_hand c.args.entries.now l.place no_entry (omega arith)) before.1 ran)
+    let ran = subst (λ st. RanOne st (Derived c.act_one.new.derivation) before.0 (c.args.first + l.place) x (Err fault)) (same_act_calls l.invariant.leaves.sheet) (c.in_err-act_one.ensures.ran before.0 before.2) in
+    rw refused (stopped_by (open_calls c.args.derivation.now) c.args.first (map stored c.args.entries.now) (Derived c.act_one.new.derivation) h before.0 l.place x fault (at_hand c.args.entries.now l.place no_entry (omega arith)) before.1 ran)
 
 pub returns-in_err-act_one-clause-leaves : goal.returns-in_err-act_one-clause-leaves
 returns-in_err-act_one-clause-leaves c = leave_on_open c.loop-place.invariant.leaves c.act_one.ensures.leaves
@@ -28,12 +28,12 @@ loop-place-preserved c =
       leaves = leave_on_open l.invariant.leaves c.act_one.ensures.leaves;
       so_far = λ h g.
           let before = l.invariant.so_far h g in
-          let ran = subst (λ st. RanOne st (Derived c.act_one.new.derivation) before.0 (c.args.first + l.place) x (Ok tt)) (same_act_steps l.invariant.leaves.sheet) (c.in_ok-act_one.ensures.ran before.0 before.2) in
-          (_, one_more (steps_in c.args.derivation.now) c.args.first (map stored c.args.entries.now) h before.0 l.place x (at_hand c.args.entries.now l.place no_entry (omega arith)) before.1 ran.0, ran.1);
+          let ran = subst (λ st. RanOne st (Derived c.act_one.new.derivation) before.0 (c.args.first + l.place) x (Ok tt)) (same_act_calls l.invariant.leaves.sheet) (c.in_ok-act_one.ensures.ran before.0 before.2) in
+          (_, one_more (open_calls c.args.derivation.now) c.args.first (map stored c.args.entries.now) h before.0 l.place x (at_hand c.args.entries.now l.place no_entry (omega arith)) before.1 ran.0, ran.1);
     }
 
 pub returns-clause-ran : goal.returns-clause-ran
 returns-clause-ran c h g =
     let l = c.loop-place in
     let before = l.invariant.so_far h g in
-    (before.0, all_run (steps_in c.args.derivation.now) c.args.first (map stored c.args.entries.now) h before.0 l.place (omega (arith, length-map c.args.entries.now stored)) before.1, before.2)
+    (before.0, all_run (open_calls c.args.derivation.now) c.args.first (map stored c.args.entries.now) h before.0 l.place (omega (arith, length-map c.args.entries.now stored)) before.1, before.2)
