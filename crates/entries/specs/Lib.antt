@@ -4,3 +4,4 @@ pub mod Entries
 pub mod Forms
 pub mod Texts
 pub mod InTurn
+pub mod ProofFiles

@@ -5,6 +5,7 @@
 //   kind::Kind             the kind of a record
 //   turn::Turn             which kinds may come next
 //   parse::parse           what a record says, or its first wrong, missing or surplus field
+//   theorems               which records come in their turns
 #![tactic(auto)]
 
 pub mod citations;
@@ -13,4 +14,5 @@ mod forms;
 pub mod kind;
 mod names;
 pub mod parse;
+pub mod theorems;
 pub mod turn;
