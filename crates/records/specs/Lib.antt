@@ -2,3 +2,4 @@ pub mod Limits
 pub mod Pieces
 pub mod Numbers
 pub mod Cursors
+pub mod Decimals

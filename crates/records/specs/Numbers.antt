@@ -2,7 +2,7 @@
 use Rattle.std.specs.Prelude.{ℕ, ◌+◌, ◌-◌, ◌*◌, ◌==◌, ◌&&◌, ◌||◌, nat_lt, if◌then◌else◌, Bool, List, [], ◌∷◌, length, slice_index, Some, None, Option}
 use Rattle.records.specs.Limits.{most_digits}
 
--- what a byte from 0 to 9 is worth
+-- what a digit's byte, 48 to 57, is worth
 abbrev pub digit : ℕ → Option ℕ
 digit b = if nat_lt b 48 || nat_lt 57 b then None else Some (b - 48)
 

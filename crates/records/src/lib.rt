@@ -3,9 +3,11 @@
 //   records::Records   the records of an input, one after the other
 //   fields::Fields     the fields of a record, one after the other
 //   number::number     the number that a field writes
+//   theorems           that such a number is written in decimal
 #![tactic(auto)]
 
 mod cut;
 pub mod fields;
 pub mod number;
 pub mod records;
+pub mod theorems;
