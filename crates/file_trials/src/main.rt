@@ -3,7 +3,7 @@
 
 use answer_lines::check::check_line;
 use answer_lines::weigh::weigh_line;
-use console::limits::{LINE_RECORDS, ANSWER_ROOM, STORE_RECORDS};
+use console::limits::{ANSWER_ROOM, LINE_RECORDS, STORE_RECORDS};
 use entries::entry::Entry;
 use formulas::store::Store;
 use grammar::node::Node;

@@ -2,7 +2,7 @@
 #![tactic(auto)]
 
 use answer_lines::weigh::weigh_line;
-use console::limits::{LINE_RECORDS, ANSWER_ROOM, MOST_READ, STORE_RECORDS};
+use console::limits::{ANSWER_ROOM, LINE_RECORDS, MOST_READ, STORE_RECORDS};
 use console::{fill, write_line};
 use entries::entry::Entry;
 use formulas::store::Store;
