@@ -16,7 +16,7 @@ module _ {A : Type 0} (test : A → Bool) where
       at true e none = absurd (fails x e)
       at false e none = none
 
-own_name : (r : Rule) → rule_named (name_of r) ≡ Some r
+pub own_name : (r : Rule) → rule_named (name_of r) ≡ Some r
 own_name Reiterate = refl
 own_name AndIntro = refl
 own_name AndLeft = refl

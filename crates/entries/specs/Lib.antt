@@ -5,3 +5,4 @@ pub mod Forms
 pub mod Texts
 pub mod InTurn
 pub mod ProofFiles
+pub mod Written

@@ -1,7 +1,13 @@
 // What holds of every list of records. The function stands for the theorem that its contract states.
 ghost use Rattle.entries.specs.ProofFiles.{TurnsOfFiles};
+ghost use Rattle.entries.specs.Written.{RecordsAreWritten};
 
 // The records that come in their turns are those of a proof file, or of one, a separator, and what may come after it.
 pub fn turns_make_files()
     ensures { TurnsOfFiles }
+{}
+
+// Fields say a thing just where they are how it is written, in form and in turn; a fault is at the first field that no such record goes on with.
+pub fn records_are_written()
+    ensures { RecordsAreWritten }
 {}
