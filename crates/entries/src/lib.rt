@@ -5,7 +5,7 @@
 //   kind::Kind             the kind of a record
 //   turn::Turn             which kinds may come next
 //   parse::parse           what a record says, or its first wrong, missing or surplus field
-//   theorems               which records come in their turns
+//   theorems               how records are written, and which come in their turns
 #![tactic(auto)]
 
 pub mod citations;

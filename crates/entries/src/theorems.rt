@@ -1,4 +1,4 @@
-// What holds of every list of records. The function stands for the theorem that its contract states.
+// What holds of every record, and of every list of records. Each function stands for the theorem that its contract states.
 ghost use Rattle.entries.specs.ProofFiles.{TurnsOfFiles};
 ghost use Rattle.entries.specs.Written.{RecordsAreWritten};
 
