@@ -3,3 +3,4 @@ pub mod Gathered
 pub mod Derived
 pub mod Finished
 pub mod Moved
+pub mod Whole

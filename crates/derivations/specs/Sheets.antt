@@ -44,3 +44,10 @@ pub record Leaves (s after : Sheet) : Type 0 where
   pub slice : after.lines.ghost_name ≡ s.lines.ghost_name
   pub long : length after.lines.now ≡ length s.lines.now
   pub rest : drop after.count after.lines.now ≡ drop after.count s.lines.now
+
+-- the same store, line records, number of lines and mode
+pub record SameSheet (s after : Sheet) : Type 0 where
+  pub store : after.store ≡ s.store
+  pub lines : after.lines.now ≡ s.lines.now
+  pub count : after.count ≡ s.count
+  pub mode : after.mode ≡ s.mode

@@ -14,13 +14,13 @@ pub mod premise;
 pub mod start;
 
 // The records are those of some history of accepted calls.
-// The fields are public, and guarded by the ghost fields: who puts a `Gathering` together has to prove that.
+// Only this crate reaches its fields: what another crate holds is written by calls alone.
 #[derive(Drop)]
 pub struct Gathering<'s, 'l> {
-    pub store: &'s Store,
-    pub lines: &'l mut [Line],
-    pub count: usize,
-    pub mode: Mode,
+    pub(crate) store: &'s Store,
+    pub(crate) lines: &'l mut [Line],
+    pub(crate) count: usize,
+    pub(crate) mode: Mode,
     ghost small: { count ≤ most_lines },
     ghost fits: { count ≤ length lines.now },
     ghost few: { count ≤ most_premises },

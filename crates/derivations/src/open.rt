@@ -18,16 +18,16 @@ pub mod seal;
 pub mod step;
 
 // The records are those of some history of accepted calls, of which `premises` were premises.
-// The fields are public, and guarded by the ghost fields: who puts an `Open` together has to prove that.
+// Only this crate reaches its fields: what another crate holds is written by calls alone.
 // That each such history is sound is no ghost field: it stands on the calls, where a caller reads it, with what each leaves and refuses.
 #[derive(Drop)]
 pub struct Open<'s, 'l> {
-    pub store: &'s Store,
-    pub lines: &'l mut [Line],
-    pub count: usize,
-    pub mode: Mode,
-    pub premises: usize,
-    pub boxes: Boxes,
+    pub(crate) store: &'s Store,
+    pub(crate) lines: &'l mut [Line],
+    pub(crate) count: usize,
+    pub(crate) mode: Mode,
+    pub(crate) premises: usize,
+    pub(crate) boxes: Boxes,
     ghost small: { count ≤ most_lines },
     ghost fits: { count ≤ length lines.now },
     ghost few: { premises ≤ most_premises },

@@ -15,15 +15,15 @@ pub mod conclude;
 pub mod look;
 
 // Nothing can be written to it any more.
-// The fields are public, and guarded by the ghost fields: who puts a `Sealed` together has to prove that its records are those of a history.
+// Only this crate reaches its fields. Its records are those of a history.
 #[derive(Drop)]
 pub struct Sealed<'s, 'l> {
-    pub store: &'s Store,
-    pub lines: &'l mut [Line],
-    pub count: usize,
-    pub mode: Mode,
-    pub premises: usize,
-    pub boxes: Boxes,
+    pub(crate) store: &'s Store,
+    pub(crate) lines: &'l mut [Line],
+    pub(crate) count: usize,
+    pub(crate) mode: Mode,
+    pub(crate) premises: usize,
+    pub(crate) boxes: Boxes,
     ghost small: { count ≤ most_lines },
     ghost fits: { count ≤ length lines.now },
     ghost few: { premises ≤ most_premises },

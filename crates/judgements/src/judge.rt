@@ -2,6 +2,7 @@
 ghost use Rattle.std.specs.Prelude.{IfOk};
 ghost use Rattle.fitch.specs.History.{History};
 ghost use Rattle.derivations.specs.Finished.{mode_by, Finished, formulas_by};
+ghost use Rattle.soundness.specs.Soundness.{Sound};
 ghost use Rattle.verdicts.specs.Weighing.{Confirms};
 ghost use Rattle.judgements.specs.Judging.{Judged};
 
@@ -13,6 +14,7 @@ use verdicts::weigh::weigh;
 use weighing::valuation::Valuation;
 
 // The verdict on a derivation in any algebra, by whatever calls it was written and sealed: if it is constructive, its sequent holds.
+#[tactic(auto, using(derivations::proofs::Sounding::finished_sound))]
 pub fn judge<A: Algebra>(
     derivation: &Sealed,
     algebra: &A,
@@ -20,6 +22,7 @@ pub fn judge<A: Algebra>(
     values: &mut [u32],
 ) -> Result<Verdict, Unjudged>
     ensures exact { (h : History) → Finished derivation.now h → Judged (mode_by derivation.now) (formulas_by derivation.now) h (A.Algebra.means algebra.now) valuation.now.letters values.old values.new result }
+    ensures sound { (h : History) → Finished derivation.now h → Sound (mode_by derivation.now) h }
     ensures confirmed { IfOk result (Confirms (mode_by derivation.now) (A.Algebra.means algebra.now)) }
 {
     let sequent = derivation.sequent()?;

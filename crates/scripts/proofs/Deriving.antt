@@ -1,8 +1,6 @@
 -- The premises, the other records and the sequent, put together.
-use Rattle.std.proofs.Common.{◌≡◌, ℕ, ◌+◌, ◌≤◌, List, [], ◌∷◌, map, length, take, drop, Some, None, Ok, Err, Result, inl, inr, refl, sym, ap, ap₂, ◌∙◌, subst, subst₂}
-use Rattle.std.specs.Borrow.{Bor, MutBor}
-use Rattle.std.specs.List.{position_or_len}
-use Rattle.std.proofs.lemmas.List.{drop-map, take-map, length-map}
+use Rattle.std.proofs.Common.{◌≡◌, ℕ, ◌+◌, ◌≤◌, List, [], ◌∷◌, map, length, drop, Some, None, Ok, Err, IfOk, Result, inl, inr, refl, sym, ap, ap₂, ◌∙◌, subst, subst₂}
+use Rattle.std.specs.Borrow.{Bor}
 use Rattle.grammar.specs.Formula.{Formula}
 use Rattle.fitch.specs.History.{History, begin}
 use Rattle.fitch.specs.declared.mode.Mode.{Mode}
@@ -12,37 +10,30 @@ use Rattle.ledger.specs.Recorded.{Recorded}
 use Rattle.ledger.specs.declared.line.Line.{Line}
 use Rattle.derivations.specs.Derived.{sheet_in, Derived, Leaves as LeavesOpen}
 use Rattle.derivations.specs.Gathered.{sheet_of, Gathered}
-use Rattle.derivations.specs.Sheets.{Sheet, lent_sheet, formulas_of, Leaves}
+use Rattle.derivations.specs.Sheets.{Sheet, formulas_of, Leaves}
+use Rattle.derivations.specs.Finished.{mode_by, Finished, formulas_by}
+use Rattle.derivations.specs.Whole.{Makes, Opened, FromOpen, FromGathering, Whole}
 use Rattle.derivations.specs.declared.gathering.Gathering.{Gathering}
 use Rattle.derivations.specs.declared.open.Open.{Open}
+use Rattle.derivations.specs.declared.sealed.Sealed.{Sealed}
 use Rattle.entries.specs.Entries.{Said, stored}
 use Rattle.entries.specs.declared.entry.Entry.{Entry}
 use Rattle.answers.specs.declared.checked.Checked.{Checked}
 use Rattle.answers.specs.declared.fault.Fault.{Fault}
 use Rattle.scripts.proofs.Running.{drop_further}
-use Rattle.scripts.specs.Proofs.{acts, mode_of, front, back, Concluded, RecordsShow, LinesOf}
+use Rattle.scripts.specs.Authoring.{GathersBy, WritesBy, TellsBy}
+use Rattle.scripts.specs.Proofs.{mode_of, front, back, Entailed, Concluded, RecordsShow, RecordsShowOn, LinesOf}
 use Rattle.scripts.specs.Runs.{premise_calls, act_calls, gathering_calls, open_calls, Runs, Ran}
 
--- what splits the records where the first that ends the gathering stands
-module _ (es : List (Entry ℕ)) {k : ℕ} {xs : List (Entry ℕ)} (is : k ≡ position_or_len acts (map stored es)) where
-  pub front_is : xs ≡ take k es → map stored xs ≡ front (map stored es)
-  front_is split = ap (map stored) split ∙ sym (take-map stored k es) ∙ ap (λ n. take n (map stored es)) is
-
-  pub front_long : xs ≡ take k es → length xs + 1 ≡ length (front (map stored es)) + 1
-  front_long split = ap (λ n. n + 1) (sym (length-map xs stored) ∙ ap length (front_is split))
-
-  pub back_is : xs ≡ drop k es → map stored xs ≡ back (map stored es)
-  back_is split = ap (map stored) split ∙ sym (drop-map stored k es) ∙ ap (λ n. drop n (map stored es)) is
-
 module _ (fs : List Formula) (slice : ℕ) (xs : List (Said ℕ)) where
-  pub gathered_fault : (k : History) (u : Fault) → Runs (premise_calls fs slice) [] 1 (front xs) k (Some u) → RecordsShow fs slice xs k (Err u)
+  gathered_fault : (k : History) (u : Fault) → Runs (premise_calls fs slice) [] 1 (front xs) k (Some u) → RecordsShow fs slice xs k (Err u)
   gathered_fault k u runs = inl (k, Some u, runs, (refl, refl))
 
   module _ (k : History) (gathered : Runs (premise_calls fs slice) [] 1 (front xs) k None) (j : History) where
-    pub acted_fault : (u : Fault) → Runs (act_calls (mode_of xs) fs slice) (begin ∷ k) (length (front xs) + 1) (back xs) j (Some u) → RecordsShow fs slice xs j (Err u)
+    acted_fault : (u : Fault) → Runs (act_calls (mode_of xs) fs slice) (begin ∷ k) (length (front xs) + 1) (back xs) j (Some u) → RecordsShow fs slice xs j (Err u)
     acted_fault u runs = inl (k, None, gathered, runs)
 
-    pub concluded : Runs (act_calls (mode_of xs) fs slice) (begin ∷ k) (length (front xs) + 1) (back xs) j None → (r : Result Checked Fault) → Concluded (mode_of xs) fs j (length xs) r → RecordsShow fs slice xs j r
+    concluded : Runs (act_calls (mode_of xs) fs slice) (begin ∷ k) (length (front xs) + 1) (back xs) j None → (r : Result Checked Fault) → Concluded (mode_of xs) fs j (length xs) r → RecordsShow fs slice xs j r
     concluded acted (Ok c) shown = ((k, None, gathered, acted), shown)
     concluded acted (Err u) shown = inr ((k, None, gathered, acted), shown)
 
@@ -70,53 +61,85 @@ pub record Front (fs : List Formula) (before : List Line) (xs : List (Said ℕ))
   pub formulas : formulas_of (sheet_of after) ≡ fs
   pub past : Past after.count before after.lines.now
 
--- from a gathering over what is lent
-module _ {store : Bor Store} {lines : MutBor (List Line)} {m : Mode} (g after : Gathering) (fresh : sheet_of g ≡ lent_sheet store lines m 0) (leaves : Leaves (sheet_of g) (sheet_of after)) where
-  gathered_past : Past after.count lines.now after.lines.now
-  gathered_past = subst (λ s. Past after.count s.lines.now after.lines.now) fresh (past_by leaves)
+-- from a gathering that is made over a slice of these records
+module _ {store : Bor Store} {es : List Line} {m : Mode} (g after : Gathering) (makes : Makes store es m g) (leaves : Leaves (sheet_of g) (sheet_of after)) where
+  gathered_past : Past after.count es after.lines.now
+  gathered_past = subst (λ xs. Past after.count xs after.lines.now) makes.lines (past_by leaves)
 
   gathered_formulas : formulas_of (sheet_of after) ≡ contents store.now
-  gathered_formulas = ap (λ t. contents t.now) leaves.store ∙ ap formulas_of fresh
+  gathered_formulas = ap (λ t. contents t.now) (leaves.store ∙ makes.store)
 
-  pub gathered_ran : (r : Result Unit Fault) {xs ys : List (Said ℕ)} → xs ≡ ys → Ran (gathering_calls g) (Gathered after) [] 1 xs r → Ran (premise_calls (contents store.now) (length lines.now)) (Gathered after) [] 1 ys r
-  gathered_ran r same ran = subst₂ (λ st xs. Ran st (Gathered after) [] 1 xs r) (ap (λ s. premise_calls (formulas_of s) (length s.lines.now)) fresh) same ran
+  gathered_ran : (r : Result Unit Fault) (xs : List (Said ℕ)) → Ran (gathering_calls g) (Gathered after) [] 1 xs r → Ran (premise_calls (contents store.now) (length es)) (Gathered after) [] 1 xs r
+  gathered_ran r xs ran = subst (λ st. Ran st (Gathered after) [] 1 xs r) (ap₂ premise_calls (ap (λ t. contents t.now) makes.store) (ap length makes.lines)) ran
 
-  pub gathered_lines : (h : History) {es : List Line} → es ≡ after.lines.now → Gathered after h → LinesOf (contents store.now) lines.now es h
+  gathered_lines : (h : History) {held : List Line} → held ≡ after.lines.now → Gathered after h → LinesOf (contents store.now) es held h
   gathered_lines h same x = lines_of same gathered_past (subst (λ fs. Recorded fs after.lines.now after.count h) gathered_formulas x.recorded)
 
-  pub gathered_front : (ys : List (Said ℕ)) {xs : List (Said ℕ)} → m ≡ mode_of ys → xs ≡ front ys → Ran (gathering_calls g) (Gathered after) [] 1 xs (Ok tt) → (h : History) × Front (contents store.now) lines.now ys after h
-  gathered_front ys is same ran =
-      let k = gathered_ran (Ok tt) same ran in
-      (k.0, record { runs = k.1; history = k.2; mode = leaves.mode ∙ ap (λ s. s.mode) fresh ∙ is; formulas = gathered_formulas; past = gathered_past })
+  gathered_front : (xs : List (Said ℕ)) → m ≡ mode_of xs → Ran (gathering_calls g) (Gathered after) [] 1 (front xs) (Ok tt) → (h : History) × Front (contents store.now) es xs after h
+  gathered_front xs is ran =
+      let k = gathered_ran (Ok tt) (front xs) ran in
+      (k.0, record { runs = k.1; history = k.2; mode = leaves.mode ∙ makes.mode ∙ is; formulas = gathered_formulas; past = gathered_past })
 
--- a derivation that is opened where the premises are gathered
-pub record Takes (after : Gathering) (o : Open) : Type 0 where
-  pub store : o.store ≡ after.store
-  pub lines : o.lines.now ≡ after.lines.now
-  pub count : o.count ≡ after.count
-  pub mode : o.mode ≡ after.mode
+-- from the derivation that is then opened
+module _ {fs : List Formula} {before : List Line} {xs : List (Said ℕ)} {after : Gathering} {h : History} (half : Front fs before xs after h) {o acted : Open} (leaves : LeavesOpen o acted) (opened : Opened after o) where
+  acted_mode : acted.mode ≡ mode_of xs
+  acted_mode = leaves.sheet.mode ∙ opened.sheet.mode ∙ half.mode
 
-module _ {fs : List Formula} {before : List Line} {xs : List (Said ℕ)} {after : Gathering} {h : History} (half : Front fs before xs after h) {o acted : Open} (leaves : LeavesOpen o acted) (takes : Takes after o) where
-  pub acted_mode : acted.mode ≡ mode_of xs
-  acted_mode = leaves.sheet.mode ∙ takes.mode ∙ half.mode
-
-  pub acted_formulas : formulas_of (sheet_in acted) ≡ fs
-  acted_formulas = ap (λ t. contents t.now) (leaves.sheet.store ∙ takes.store) ∙ half.formulas
+  acted_formulas : formulas_of (sheet_in acted) ≡ fs
+  acted_formulas = ap (λ t. contents t.now) (leaves.sheet.store ∙ opened.sheet.store) ∙ half.formulas
 
   acted_calls : open_calls o ≡ act_calls (mode_of xs) fs (length before)
   acted_calls =
-      ap (λ m. act_calls m (formulas_of (sheet_in o)) (length o.lines.now)) (takes.mode ∙ half.mode)
-      ∙ ap₂ (act_calls (mode_of xs)) (ap (λ t. contents t.now) takes.store ∙ half.formulas) (ap length takes.lines ∙ half.past.long)
+      ap (λ m. act_calls m (formulas_of (sheet_in o)) (length o.lines.now)) (opened.sheet.mode ∙ half.mode)
+      ∙ ap₂ (act_calls (mode_of xs)) (ap (λ t. contents t.now) opened.sheet.store ∙ half.formulas) (ap length opened.sheet.lines ∙ half.past.long)
 
-  pub acted_ran : (r : Result Unit Fault) {i : ℕ} {ys : List (Said ℕ)} → i ≡ length (front xs) + 1 → ys ≡ back xs
-      → Ran (open_calls o) (Derived acted) (begin ∷ h) i ys r → Ran (act_calls (mode_of xs) fs (length before)) (Derived acted) (begin ∷ h) (length (front xs) + 1) (back xs) r
-  acted_ran r {ys = ys} at same ran =
-      subst₂ (λ st zs. Ran st (Derived acted) (begin ∷ h) (length (front xs) + 1) zs r) acted_calls same (subst (λ n. Ran (open_calls o) (Derived acted) (begin ∷ h) n ys r) at ran)
+  acted_ran : (r : Result Unit Fault) → WritesBy xs o r acted → Ran (act_calls (mode_of xs) fs (length before)) (Derived acted) (begin ∷ h) (length (front xs) + 1) (back xs) r
+  acted_ran r writes = subst (λ st. Ran st (Derived acted) (begin ∷ h) (length (front xs) + 1) (back xs) r) acted_calls (writes (begin ∷ h) (opened.history h half.history))
 
   acted_past : Past acted.count before acted.lines.now
   acted_past =
-      past_on (subst (λ n. n ≤ acted.count) takes.count leaves.sheet.more) half.past
-      (subst (λ es. Past acted.count es acted.lines.now) takes.lines (past_by leaves.sheet))
+      past_on (subst (λ n. n ≤ acted.count) opened.sheet.count leaves.sheet.more) half.past
+      (subst (λ es. Past acted.count es acted.lines.now) opened.sheet.lines (past_by leaves.sheet))
 
-  pub acted_lines : (k : History) {es : List Line} → es ≡ acted.lines.now → Derived acted k → LinesOf fs before es k
+  acted_lines : (k : History) {es : List Line} → es ≡ acted.lines.now → Derived acted k → LinesOf fs before es k
   acted_lines k same x = lines_of same acted_past (subst (λ gs. Recorded gs acted.lines.now acted.count k) acted_formulas x.recorded)
+
+-- what is shown of the records, and what is shown is entailed
+pub record ShowsOn (fs : List Formula) (before es : List Line) (xs : List (Said ℕ)) (r : Result Checked Fault) : Type 0 where
+  pub exact : RecordsShowOn fs before es xs r
+  pub entails : IfOk r (Entailed fs)
+
+no_shown : {fs : List Formula} {before es : List Line} {xs : List (Said ℕ)} {e : Fault} {r : Result Checked Fault} → r ≡ Err e → RecordsShowOn fs before es xs (Err e) → ShowsOn fs before es xs r
+no_shown {fs} {before} {es} {xs} is shows = subst (ShowsOn fs before es xs) (sym is) (record { exact = shows; entails = tt })
+
+module _ {fs : List Formula} {before es : List Line} {xs : List (Said ℕ)} {after : Gathering} {h : History} {o : Open} {r : Result Checked Fault} (half : Front fs before xs after h) (opened : Opened after o) where
+  from_open : FromOpen (WritesBy xs) (TellsBy xs) o r es → ShowsOn fs before es xs r
+  from_open (FromOpen.stopped {e} acted wrote leaves refused same) =
+      let ran = acted_ran half leaves opened (Err e) wrote in
+      no_shown refused (ran.0, acted_fault fs (length before) xs h half.runs ran.0 e ran.1, acted_lines half leaves opened ran.0 same ran.2)
+  from_open (FromOpen.told {d} acted wrote leaves seals tells same) =
+      let ran = acted_ran half leaves opened (Ok tt) wrote in
+      let mode = seals.sheet.mode ∙ acted_mode half leaves opened in
+      let formulas = ap (λ t. contents t.now) seals.sheet.store ∙ acted_formulas half leaves opened in
+      let concludes = subst₂ (λ m gs. Concluded m gs ran.0 (length xs) r) mode formulas (tells.0 ran.0 (seals.history ran.0 ran.2)) in
+      record {
+        exact = (ran.0, concluded fs (length before) xs h half.runs ran.0 ran.1 r concludes, acted_lines half leaves opened ran.0 same ran.2);
+        entails = subst (λ gs. IfOk r (Entailed gs)) formulas tells.1;
+      }
+
+from_gathering :
+    {store : Bor Store} {before es : List Line} {xs : List (Said ℕ)} {g : Gathering} {r : Result Checked Fault}
+    → Makes store before (mode_of xs) g → FromGathering (GathersBy xs) (WritesBy xs) (TellsBy xs) g r es → ShowsOn (contents store.now) before es xs r
+from_gathering {store} {before} {es} {xs} {g} makes (FromGathering.stopped {e} after gathered leaves refused same) =
+    let ran = gathered_ran g after makes leaves (Err e) (front xs) (gathered [] makes.history) in
+    no_shown refused (ran.0, gathered_fault (contents store.now) (length before) xs ran.0 e ran.1, gathered_lines g after makes leaves ran.0 same ran.2)
+from_gathering {xs = xs} {g = g} makes (FromGathering.opened after gathered leaves opened goes) =
+    from_open (gathered_front g after makes leaves xs refl (gathered [] makes.history)).1 opened goes
+
+-- a whole derivation whose author runs the records
+pub records_shown :
+    {store : Bor Store} {before es : List Line} {xs : List (Said ℕ)} {m : Mode} {r : Result Checked Fault}
+    → m ≡ mode_of xs → Whole (GathersBy xs) (WritesBy xs) (TellsBy xs) store before m r es → ShowsOn (contents store.now) before es xs r
+records_shown {store} {before} {es} {xs} {r = r} is whole =
+    let w = subst (λ m. Whole (GathersBy xs) (WritesBy xs) (TellsBy xs) store before m r es) is whole in
+    from_gathering w.makes w.runs

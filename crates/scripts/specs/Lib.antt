@@ -1,3 +1,4 @@
 pub mod Runs
 pub mod Proofs
+pub mod Authoring
 pub mod Settled

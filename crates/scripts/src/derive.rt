@@ -1,20 +1,22 @@
 // Writes a derivation by the records of a proof file.
-ghost use Rattle.std.specs.Prelude.{◌≡◌, ◌≤◌, length, map, position, IfOk};
+ghost use Rattle.std.specs.Prelude.{◌≡◌, ◌+◌, ◌≤◌, length, map, position, IfOk};
 ghost use Rattle.std.specs.List.{position_or_len};
 ghost use Rattle.formulas.specs.Stores.{contents};
 ghost use Rattle.entries.specs.Entries.{stored};
 ghost use Rattle.fitch.specs.History.{History};
 ghost use Rattle.derivations.specs.Finished.{mode_by, Finished, formulas_by};
-ghost use Rattle.scripts.specs.Proofs.{acts, mode_of, Entailed, Concluded, RecordsShowOn};
+ghost use Rattle.scripts.specs.Authoring.{GathersBy, WritesBy, TellsBy};
+ghost use Rattle.scripts.specs.Proofs.{acts, mode_of, front, back, Entailed, Concluded, RecordsShowOn};
 
 use crate::run::acts::act_all;
 use crate::run::premises::gather;
 use answers::checked::Checked;
 use answers::fault::{Fault, Reason};
-use boxes::boxes::Boxes;
+use derivations::author::Author;
 use derivations::gathering::Gathering;
 use derivations::open::Open;
 use derivations::sealed::Sealed;
+use derivations::whole::derive_by;
 use entries::entry::Entry;
 use fitch::mode::Mode;
 use formulas::store::Store;
@@ -67,45 +69,53 @@ fn conclude(derivation: &Sealed, records: usize) -> Result<Checked, Fault>
     })
 }
 
+// The records of a proof file, numbered from 1, as the author of its derivation.
+#[derive(Drop)]
+struct Script<'e> {
+    entries: &'e [Entry<usize>],
+}
+
+impl<'e> Script<'e> {
+    // The records before the first that ends the gathering, and those from it on.
+    fn split(&self) -> (&'e [Entry<usize>], &'e [Entry<usize>])
+        ensures front { map stored result.0.now ≡ front (map stored self.now.entries.now) }
+        ensures back { map stored result.1.now ≡ back (map stored self.now.entries.now) }
+        ensures whole { length result.0.now + length result.1.now ≡ length self.now.entries.now }
+    {
+        self.entries.split_at(count_front(self.entries))
+    }
+}
+
+impl Author for Script<'_> {
+    type Told = Checked;
+
+    type Fault = Fault;
+
+    ghost gathers = { λ script g r after. GathersBy (map stored script.entries.now) g r after };
+
+    ghost writes = { λ script o r after. WritesBy (map stored script.entries.now) o r after };
+
+    ghost tells = { λ script d r. TellsBy (map stored script.entries.now) d r };
+
+    fn gather(&self, gathering: &mut Gathering) -> Result<(), Fault> {
+        let (front, _) = self.split();
+        gather(gathering, front, 1)
+    }
+
+    fn write(&self, derivation: &mut Open) -> Result<(), Fault> {
+        let (front, back) = self.split();
+        act_all(derivation, back, front.len() + 1)
+    }
+
+    fn tell(&self, derivation: &Sealed) -> Result<Checked, Fault> {
+        conclude(derivation, self.entries.len())
+    }
+}
+
 // Writes a derivation by the records of a proof file, numbered from 1, over the store of their formulas: what it shows, or the first fault.
-// Each state is taken apart and the next put together here, as `open` and `seal` do: of a slice that a call hands on, its owner would know nothing in the end.
 pub fn derive(store: &Store, lines: &mut [Line], entries: &[Entry<usize>]) -> Result<Checked, Fault>
     ensures exact { RecordsShowOn (contents store.now) lines.old lines.new (map stored entries.now) result }
     ensures entails { IfOk result (Entailed (contents store.now)) }
 {
-    let (front, back) = entries.split_at(count_front(entries));
-    let mut gathering = Gathering::new(store, lines, mode_of(entries));
-    gather(&mut gathering, front, 1)?;
-    let Gathering {
-        store,
-        lines,
-        count,
-        mode,
-    } = gathering;
-    let mut derivation = Open {
-        store,
-        lines,
-        count,
-        mode,
-        premises: count,
-        boxes: Boxes::new(),
-    };
-    act_all(&mut derivation, back, front.len() + 1)?;
-    let Open {
-        store,
-        lines,
-        count,
-        mode,
-        premises,
-        boxes,
-    } = derivation;
-    let sealed = Sealed {
-        store,
-        lines,
-        count,
-        mode,
-        premises,
-        boxes,
-    };
-    conclude(&sealed, entries.len())
+    derive_by(&Script { entries }, store, lines, mode_of(entries))
 }
