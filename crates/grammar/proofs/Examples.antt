@@ -17,7 +17,7 @@ use Rattle.grammar.proofs.Readings.{reads_at, no_formula, too_deep}
 answers_at : (least : ℕ) (s : List ℕ) (f : Formula) (p : ℕ) → Readable s f → 27 + signs s ≤ least → p < length (entered basic f) → formula_at (entered basic f) p ≡ f → Answers least s (Ok p)
 answers_at least s f p r room l here c h = (
   (entered basic f, ((f, r, record { held = refl; within = l; found = here }), omega arith)),
-  λ gs a w. reads_at s c basic gs f p basics_good.once r (omega arith) l here a w,
+  λ gs a w. reads_at s c basic gs f r p basics_good.once (l, here) (omega arith) a w,
 )
 
 answers_wrong : (s : List ℕ) (i : ℕ) → length s ≤ 1024 → NoFormula s i → Answers 27 s (Err (NotFormula i))

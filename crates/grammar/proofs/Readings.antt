@@ -1,12 +1,12 @@
 -- A reading has one answer: what is known of a text says which.
-use Rattle.std.proofs.Common.{◌≡◌, ℕ, ◌+◌, ◌<◌, ◌≤◌, ◌⊎◌, List, length, Ok, Err, Result, sym, refl, ap, ◌∙◌, subst, inl, inr, ⊎_elim, arith}
+use Rattle.std.proofs.Common.{◌≡◌, ℕ, ◌+◌, ◌<◌, ◌≤◌, ◌⊎◌, List, length, Ok, Err, Result, MatchResult, sym, refl, ap, ◌∙◌, subst, inl, inr, arith}
 use Rattle.grammar.specs.Formula.{Formula, nesting}
 use Rattle.grammar.specs.Symbols.{signs}
 use Rattle.grammar.specs.Texts.{Text, NoFormula}
 use Rattle.grammar.specs.WrittenText.{text}
 use Rattle.grammar.specs.Contents.{formula_at, entered, Fitting, Once}
-use Rattle.grammar.specs.Reading.{Readable, Enters, Read, OneAnswer}
-use Rattle.grammar.specs.Writing.{text_at, ReadsBack}
+use Rattle.grammar.specs.Reading.{Readable, Enters, Refused, Read, OneAnswer}
+use Rattle.grammar.specs.Writing.{HeldAt, ReadsBack}
 use Rattle.grammar.specs.declared.refusal.Refusal.{Refusal}
 use Rattle.grammar.specs.declared.refusal.Refusal.TheVariants.{FewRecords, LongText, NotFormula, DeepFormula, RecordsWanting, ShortBuffer, NotStored}
 use Rattle.grammar.proofs.Adding.{entered_long, entered_keeps, entered_once}
@@ -56,46 +56,45 @@ module _ (s : List ℕ) (capacity : ℕ) (fs gs : List Formula) where
 
   -- a text that can be read
   module _ (f : Formula) (r : Readable s f) where
+    -- it enters its formula, unless records are wanting
+    enters : (a : Result ℕ Refusal) → Answered a → MatchResult a (Enters fs gs f) (λ e. e ≡ RecordsWanting)
+    enters (Ok p) w = subst (λ g. Enters fs gs g p) (unambiguous.one_formula w.0.1.text r.text) w.0.2
+    enters (Err FewRecords) w = absurd w.0
+    enters (Err LongText) w = absurd (omega (arith, w.0, r.short))
+    enters (Err (NotFormula i)) w = absurd (w.0.1.none f r.text)
+    enters (Err DeepFormula) w = absurd (omega (arith, w.0.1.2, r.shallow, same_nesting r.text w.0.1.1))
+    enters (Err RecordsWanting) w = refl
+    enters (Err ShortBuffer) w = absurd w.0
+    enters (Err NotStored) w = absurd w.0
+
     pub wanting : capacity < length fs + signs s → (a : Result ℕ Refusal) → Answered a → a ≡ Err RecordsWanting
     wanting h (Ok p) w = absurd (omega (arith, w.1))
-    wanting h (Err FewRecords) w = absurd w.0
-    wanting h (Err LongText) w = absurd (omega (arith, w.0, r.short))
-    wanting h (Err (NotFormula i)) w = absurd (w.0.1.none f r.text)
-    wanting h (Err DeepFormula) w = absurd (omega (arith, w.0.1.2, r.shallow, same_nesting r.text w.0.1.1))
-    wanting h (Err RecordsWanting) w = refl
-    wanting h (Err ShortBuffer) w = absurd w.0
-    wanting h (Err NotStored) w = absurd w.0
+    wanting h (Err e) w = ap Err (enters (Err e) w)
 
-    -- a formula's place is one
-    one_entry : (p q : ℕ) (g : Formula) → Once fs → p < length (entered fs f) → formula_at (entered fs f) p ≡ f → Text g s → Enters fs gs g q → q ≡ p
-    one_entry p q g once l here x e =
-        let same : g ≡ f = unambiguous.one_formula x r.text in
-        let held : gs ≡ entered fs f = e.held ∙ ap (entered fs) same in
-        one_place (entered fs f) (entered_once fs f once) q p (omega (arith, e.within, ap length held)) l (ap (λ k. formula_at k q) (sym held) ∙ e.found ∙ same ∙ sym here)
+    held : (a : Result ℕ Refusal) → Answered a → MatchResult a (HeldAt gs f) (λ e. e ≡ RecordsWanting)
+    held (Ok p) w = let e = enters (Ok p) w in (e.within, e.found)
+    held (Err e) w = enters (Err e) w
 
-    pub read_at : (p : ℕ) → Once fs → p < length (entered fs f) → formula_at (entered fs f) p ≡ f → (a : Result ℕ Refusal) → Answered a → (a ≡ Ok p) ⊎ (a ≡ Err RecordsWanting)
-    read_at p once l here (Ok q) w = inl (ap Ok (one_entry p q w.0.0 once l here w.0.1.text w.0.2))
-    read_at p once l here (Err FewRecords) w = absurd w.0
-    read_at p once l here (Err LongText) w = absurd (omega (arith, w.0, r.short))
-    read_at p once l here (Err (NotFormula i)) w = absurd (w.0.1.none f r.text)
-    read_at p once l here (Err DeepFormula) w = absurd (omega (arith, w.0.1.2, r.shallow, same_nesting r.text w.0.1.1))
-    read_at p once l here (Err RecordsWanting) w = inr refl
-    read_at p once l here (Err ShortBuffer) w = absurd w.0
-    read_at p once l here (Err NotStored) w = absurd w.0
+    -- the place of its formula is one
+    module _ (p : ℕ) (once : Once fs) (there : HeldAt (entered fs f) f p) where
+      one_entry : (q : ℕ) → Enters fs gs f q → q ≡ p
+      one_entry q e =
+          one_place (entered fs f) (entered_once fs f once) q p (omega (arith, e.within, ap length e.held)) there.0 (ap (λ k. formula_at k q) (sym e.held) ∙ e.found ∙ sym there.1)
 
--- records are not wanting where there is room
-not_wanting : (s : List ℕ) (capacity : ℕ) (fs gs : List Formula) (a : Result ℕ Refusal) → length fs + signs s ≤ capacity → Read s capacity fs gs a → a ≡ Err RecordsWanting → ⊥
-not_wanting s capacity fs gs a room w e = let v = subst (Read s capacity fs gs) e w in omega (arith, v.0.1)
+      kept : (a : Result ℕ Refusal) → Answered a → (a ≡ Ok p) ⊎ (a ≡ Err RecordsWanting)
+      kept (Ok q) w = inl (ap Ok (one_entry q (enters (Ok q) w)))
+      kept (Err e) w = inr (ap Err (enters (Err e) w))
 
--- a text that can be read, and for which there is room, is read at its formula's place
-pub reads_at : (s : List ℕ) (capacity : ℕ) (fs gs : List Formula) (f : Formula) (p : ℕ) → Once fs → Readable s f → length fs + signs s ≤ capacity → p < length (entered fs f) → formula_at (entered fs f) p ≡ f → (a : Result ℕ Refusal) → Read s capacity fs gs a → a ≡ Ok p
-reads_at s capacity fs gs f p once r room l here a w = ⊎_elim (λ e. e) (λ e. absurd (not_wanting s capacity fs gs a room w e)) (read_at s capacity fs gs f r p once l here a w)
+      -- and records are not wanting where there is room
+      pub reads_at : length fs + signs s ≤ capacity → (a : Result ℕ Refusal) → Answered a → a ≡ Ok p
+      reads_at room (Ok q) w = ap Ok (one_entry q (enters (Ok q) w))
+      reads_at room (Err e) w = let v = subst (Refused s capacity fs) (enters (Err e) w) w.0 in absurd (omega (arith, v.1))
 
 module _ (s : List ℕ) (capacity : ℕ) (fs gs hs : List Formula) (once : Once fs) where
   agree : (a b : Result ℕ Refusal) → Read s capacity fs gs a → Read s capacity fs hs b → b ≡ a
   agree (Ok p) b w v =
       let e = w.0.2 in
-      reads_at s capacity fs hs w.0.0 p once w.0.1 w.1 (omega (arith, e.within, ap length e.held)) (ap (λ l. formula_at l p) (sym e.held) ∙ e.found) b v
+      reads_at s capacity fs hs w.0.0 w.0.1 p once (omega (arith, e.within, ap length e.held), ap (λ l. formula_at l p) (sym e.held) ∙ e.found) w.1 b v
   agree (Err FewRecords) b w v = absurd w.0
   agree (Err LongText) b w v = too_long s capacity fs hs w.0 b v
   agree (Err (NotFormula i)) b w v = no_formula s capacity fs hs w.0.0 i w.0.1 b v
@@ -114,7 +113,10 @@ one_answer s capacity fs gs hs a b once w v =
     (sym e, same_contents s capacity fs gs hs once a w (subst (Read s capacity fs hs) e v))
 
 -- the written text of a formula that fits is read as that formula
-pub reads_back : (fs : List Formula) (p : ℕ) → Fitting (formula_at fs p) → ReadsBack fs p (text_at fs p)
-reads_back fs p fit capacity gs hs a once l same w =
-    let f = formula_at fs p in
-    read_at (text f) capacity gs hs f (record { short = fit.1; text = is_text f fit.2; shallow = fit.0 }) p once (omega (arith, entered_long gs f)) (entered_keeps gs f p l ∙ same) a w
+pub reads_back : (f : Formula) → Fitting f → ReadsBack f (text f)
+reads_back f fit capacity gs hs a once w =
+    let r : Readable (text f) f = record { short = fit.1; text = is_text f fit.2; shallow = fit.0 } in
+    record {
+      held = held (text f) capacity gs hs f r a w;
+      kept = λ p there. kept (text f) capacity gs hs f r p once (omega (arith, entered_long gs f, there.0), entered_keeps gs f p there.0 ∙ there.1) a w;
+    }

@@ -1,5 +1,5 @@
 -- What writing a formula answers.
-use Rattle.std.specs.Prelude.{◌≡◌, ℕ, ◌+◌, ◌<◌, ◌≤◌, ◌⊎◌, List, ◌++◌, length, take, drop, Ok, Err, Result}
+use Rattle.std.specs.Prelude.{◌≡◌, ℕ, ◌+◌, ◌<◌, ◌≤◌, ◌⊎◌, List, ◌++◌, length, take, drop, Ok, Err, Result, MatchResult}
 use Rattle.grammar.specs.Formula.{Formula}
 use Rattle.grammar.specs.WrittenText.{text}
 use Rattle.grammar.specs.Contents.{formula_at, Once}
@@ -30,9 +30,18 @@ Written fs place before after (Ok n) =
     (place < length fs) × (n ≡ length (text_at fs place)) × (n ≤ length before) × (after ≡ put before 0 (text_at fs place))
 Written fs place before after (Err refusal) = Unwritten fs place before refusal × (after ≡ before)
 
--- read by any store that has the same formula at that place, a text answers the place, unless records are wanting
-abbrev pub ReadsBack : List Formula → ℕ → List ℕ → Type 0
-ReadsBack fs place s =
-    (capacity : ℕ) (gs hs : List Formula) (answer : Result ℕ Refusal) →
-    Once gs → place < length gs → formula_at gs place ≡ formula_at fs place → Read s capacity gs hs answer →
-    (answer ≡ Ok place) ⊎ (answer ≡ Err RecordsWanting)
+-- f stands at a place of fs
+abbrev pub HeldAt : List Formula → Formula → ℕ → Type 0
+HeldAt fs f place = (place < length fs) × (formula_at fs place ≡ f)
+
+-- what a store that held gs and then holds hs answers to the written text of f
+pub record RoundTrip (f : Formula) (gs hs : List Formula) (answer : Result ℕ Refusal) : Type 0 where
+  -- a place at which it then holds f, unless records are wanting
+  pub held : MatchResult answer (HeldAt hs f) (λ refusal. refusal ≡ RecordsWanting)
+  -- where it held f before, that same place, unless records are wanting
+  pub kept : (place : ℕ) → HeldAt gs f place → (answer ≡ Ok place) ⊎ (answer ≡ Err RecordsWanting)
+
+-- the text s comes back as f from any store, however many records it has and whatever formulas it holds, each once
+abbrev pub ReadsBack : Formula → List ℕ → Type 0
+ReadsBack f s =
+    (capacity : ℕ) (gs hs : List Formula) (answer : Result ℕ Refusal) → Once gs → Read s capacity gs hs answer → RoundTrip f gs hs answer

@@ -1,5 +1,6 @@
 // Writes a formula's text.
 ghost use Rattle.std.specs.Prelude.{◌≡◌, ◌+◌, ◌≤◌, length, take, IfOk};
+ghost use Rattle.grammar.specs.Contents.{formula_at};
 ghost use Rattle.grammar.specs.Writing.{put, Written, ReadsBack};
 ghost use Rattle.formulas.specs.Spelled.{SpelledBy, text_of};
 ghost use Rattle.formulas.specs.Stores.{contents};
@@ -23,7 +24,7 @@ impl Store {
     // Writes the text of a stored formula to the front of a buffer, and answers its length.
     pub fn write(&self, place: usize, buffer: &mut [u8]) -> Result<usize, Refusal>
         ensures written { Written (contents self.now) place buffer.old buffer.new result }
-        ensures back { IfOk result (λ n. ReadsBack (contents self.now) place (take n buffer.new)) }
+        ensures back { IfOk result (λ n. ReadsBack (formula_at (contents self.now) place) (take n buffer.new)) }
     {
         let formula = self.stored(place)?;
         if buffer.len() < formula.text_len() {

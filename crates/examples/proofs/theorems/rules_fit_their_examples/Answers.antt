@@ -3,7 +3,7 @@ use Rattle.fitch.specs.Rules.{Serves}
 use Rattle.fitch.specs.declared.mode.Mode.TheVariants.{Constructive}
 use Rattle.fitch.specs.declared.rule.Rule.{Rule}
 use Rattle.fitch.specs.declared.rule.Rule.TheVariants.{Reiterate, AndIntro, AndLeft, AndRight, OrLeft, OrRight, OrElim, ImpIntro, ImpElim, ExFalso, Reductio}
-use Rattle.rule_examples.proofs.theorems.rules_fit_their_examples.Goals as goal
+use Rattle.examples.proofs.theorems.rules_fit_their_examples.Goals as goal
 
 constructive : (rule : Rule) → (rule ≢ Reductio) → Serves Constructive rule
 constructive Reiterate other = tt

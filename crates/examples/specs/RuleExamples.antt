@@ -7,7 +7,7 @@ use Rattle.fitch.specs.declared.mode.Mode.TheVariants.{Constructive, Classical}
 use Rattle.fitch.specs.declared.rule.Rule.{Rule}
 use Rattle.fitch.specs.declared.rule.Rule.TheVariants.{Reiterate, AndIntro, AndLeft, AndRight, OrLeft, OrRight, OrElim, ImpIntro, ImpElim, ExFalso, Reductio}
 
-pub record Examples : Type 0 where
+pub record RuleExamples : Type 0 where
   pub reiterate : (p : Formula) → Fits Reiterate p (line p ∷ [])
   pub and_intro : (p q : Formula) → Fits AndIntro (conjunction p q) (line p ∷ line q ∷ [])
   pub and_left : (p q : Formula) → Fits AndLeft p (line (conjunction p q) ∷ [])

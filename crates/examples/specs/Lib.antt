@@ -1,0 +1,2 @@
+pub mod RuleExamples
+pub mod TheoryExamples
