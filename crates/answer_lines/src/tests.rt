@@ -1,9 +1,12 @@
 use crate::check::check_line;
 use crate::unprinted::Unprinted;
 use crate::weigh::weigh_line;
+use answers::fault::{Fault, Reason};
+use answers::unanswered::Unanswered;
 use entries::entry::Entry;
 use formulas::store::Store;
 use grammar::node::Node;
+use grammar::told::Told;
 use ledger::line::BLANK;
 use std::alloc::Global;
 use std::test::Fail;
@@ -96,4 +99,20 @@ fn too_long_before_too_few(rt: HostRuntime) -> Result<(), Fail> {
     assert_eq!(rt; checked(rt.alloc(), 0, &input, &mut line)?, Ok(12));
     assert_eq!(rt; line, *b"NO\t0\tT\t28\t0\n");
     Ok(())
+}
+
+fn told<R: Told + Copy>(why: R) -> (u8, usize) {
+    (why.number(), why.place())
+}
+
+#[test]
+fn numbers_and_places(rt: HostRuntime) {
+    assert_eq!(rt; told(Unprinted::ShortEntries), (6, 0));
+    assert_eq!(rt; told(Unprinted::ShortValues), (25, 0));
+    assert_eq!(rt; told(Unprinted::ShortBuffer), (6, 0));
+    assert_eq!(rt; told(Unanswered::ShortEntries), (6, 0));
+    assert_eq!(rt; told(Unanswered::NotStored), (7, 0));
+    assert_eq!(rt; told(Unanswered::ShortValues), (25, 0));
+    let fault = Fault::At(2, Reason::Form(4));
+    assert_eq!(rt; told(Unanswered::Faulty(fault)), (29, 4));
 }

@@ -1,8 +1,10 @@
 // Why there is no answer of the kind that is asked for.
 ghost use Rattle.std.specs.Prelude.{◌≡◌};
+ghost use Rattle.answers.specs.Refusals.{number_of, place_of};
 ghost use Rattle.answers.specs.declared.unanswered.Unanswered.TheVariants.{Faulty};
 
 use crate::fault::Fault;
+use grammar::told::Told;
 
 #[derive(Clone, Copy, PartialEq, Debug)]
 pub enum Unanswered {
@@ -21,5 +23,27 @@ impl From<Fault> for Unanswered {
 
     fn from(fault: Fault) -> Unanswered {
         Unanswered::Faulty(fault)
+    }
+}
+
+impl Told for Unanswered {
+    ghost number_of = { number_of };
+
+    ghost place_of = { place_of };
+
+    fn number(self) -> u8 {
+        match self {
+            Unanswered::ShortEntries => 6,
+            Unanswered::NotStored => 7,
+            Unanswered::ShortValues => 25,
+            Unanswered::Faulty(fault) => fault.number(),
+        }
+    }
+
+    fn place(self) -> usize {
+        match self {
+            Unanswered::Faulty(fault) => fault.place(),
+            _ => 0,
+        }
     }
 }

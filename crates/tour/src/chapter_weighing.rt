@@ -33,7 +33,7 @@ pub(crate) fn tell_release(rt: &HostRuntime, derivation: &Sealed) -> anyhow::Res
     rt.println("\nIn the layer of the stages at 8:")?;
     let layer = Nucleus::new(&frame, 8).map_err(|not_made| ending(not_made.refusal))?;
     tell_verdict(rt, derivation, &layer, [15, 15, 8])?;
-    rt.println("\nIn a house's own algebra, a chain of five degrees:")?;
+    rt.println("\nIn an algebra of one's own, a chain of five degrees:")?;
     let chain = Chain::new(5).map_err(|_| anyhow::Error::msg("no chain of five degrees"))?;
     tell_verdict(rt, derivation, &chain, [3, 4, 2])?;
     Ok(())

@@ -6,6 +6,7 @@ use degrees::chain::Chain;
 use formulas::store::Store;
 use frames::frame::Frame;
 use grammar::node::Node;
+use grammar::told::Told;
 use heyting::refusal::Refusal;
 use layers::product::Product;
 use std::alloc::{AllocError, Global};
@@ -151,6 +152,19 @@ fn loads_are_refused_at_the_first_bad_pair(rt: HostRuntime) {
     assert!(rt; !frame.contains(1));
     assert_eq!(rt; frame.load(12, &[(11, 0), (0, 11)]), Ok(()));
     assert_eq!(rt; frame.span(), 4096);
+}
+
+#[test]
+fn chains_have_as_many_degrees_as_a_span_may_have(rt: HostRuntime) {
+    for degrees in [1, 65536] {
+        let chain = Chain::new(degrees);
+        assert_eq!(rt; chain.map(|chain| chain.span()), Ok(degrees));
+    }
+    for degrees in [0, 65537] {
+        let refusal = Chain::new(degrees).err();
+        let told = refusal.map(|refusal| (refusal.number(), refusal.place()));
+        assert_eq!(rt; told, Some((19, 0)));
+    }
 }
 
 #[test]

@@ -1,10 +1,12 @@
-use Rattle.std.proofs.Common.{◌≡◌, ℕ, ◌+◌, ◌-◌, ◌≤◌, List, ◌++◌, rules, length, take, sym, ap, ◌∙◌, subst, length-take-le}
-use Rattle.std.proofs.KnownBytes.{Consumes-trans}
+use Rattle.std.proofs.Common.{◌≡◌, ℕ, ◌+◌, ◌-◌, ◌≤◌, List, ◌++◌, rules, length, take, sym, ap, ◌∙◌, subst, length-take-le, arith}
+use Rattle.std.proofs.KnownBytes.{Consumes-kept, Consumes-trans}
 use Rattle.std.proofs.Math.Seq.{take-append-add}
 use Rattle.std.proofs.lemmas.List.{take-append-le}
+use Rattle.std.proofs.lemmas.Slice.{take-put_mid_below}
 use Rattle.std.specs.Io.KnownBytes.{Consumes}
 use borrow.Rule.Slice.PartMut.{put_mid, post_of}
 use Rattle.console.proofs.fill.Goals as goal
+use Rattle.console.proofs.fill.Goals.{in-Ok, in-Err}
 
 -- a part that was read into is taken with what stands before it
 take-put_mid_more : (a k n : ℕ) (xs ys : List ℕ) → a ≤ length xs → n ≤ length ys → take (a + n) (put_mid a k xs ys) ≡ take a xs ++ take n ys
@@ -15,13 +17,24 @@ take-put_mid_more a k n xs ys within fits =
     ∙ take-append-add before behind n
     ∙ ap (λ l. before ++ l) (take-append-le n ys (post_of a k xs) fits)
 
-pub loop-filled-preserved : goal.loop-filled-preserved
-loop-filled-preserved g c =
-    let filled = c.loop-filled.filled in
-    let buffer = c.loop-filled.buffer in
-    let taken = take-put_mid_more filled (length buffer - filled) c.in_ok-count.count buffer c.read.new.buf c.loop-filled.invariant.within c.in_ok-count.ensures.bound.0 in
-    record {
-      long = search rules;
-      within = search rules;
-      read = subst (Consumes _ _) (sym taken) (Consumes-trans _ _ _ _ _ c.loop-filled.invariant.read c.in_ok-count.ensures.bytes.0);
-    }
+pub loop-preserved : goal.loop-preserved
+loop-preserved g c =
+    let filled = c.loop.filled in
+    let buffer = c.loop.buffer in
+    elim c.match-read.branch [
+      | in-Ok w ↦
+          let fits = w.in-Ok.ensures.bound.0 in
+          let taken = take-put_mid_more filled (length buffer - filled) w.in-Ok.count buffer c.read.new.buf c.loop.invariant.within fits in
+          rw w.filled-is (record {
+            long = search rules;
+            within = search rules;
+            read = subst (Consumes _ _) (sym taken) (Consumes-trans _ _ _ _ _ c.loop.invariant.read w.in-Ok.ensures.bytes.0);
+          })
+      | in-Err w ↦
+          let kept = take-put_mid_below filled (length buffer - filled) buffer c.read.new.buf filled (omega arith) c.loop.invariant.within in
+          rw w.filled-is (record {
+            long = search rules;
+            within = search rules;
+            read = subst (Consumes _ _) (sym kept) (Consumes-kept _ _ _ _ c.loop.invariant.read w.in-Err.ensures.bytes);
+          })
+    ]
