@@ -14,7 +14,7 @@ use Rattle.ledger.specs.declared.sequent.Sequent.{Sequent}
 use Rattle.verdicts.specs.Weighing.{Stored, Weighed, Weighs}
 use Rattle.verdicts.specs.declared.verdict.Verdict.{Verdict}
 use Rattle.algebra_files.specs.Faults.{FileFault}
-use Rattle.algebra_files.specs.Files.{File}
+use Rattle.entries.specs.AlgebraFiles.{File}
 use Rattle.algebra_files.specs.Meant.{Means, Elements}
 use Rattle.algebra_files.specs.Outcomes.{Verdicted, Stopped, Outcome, WeighedInFile}
 use Rattle.algebra_files.specs.Theorems.{Settled}

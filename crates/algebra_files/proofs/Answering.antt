@@ -9,7 +9,7 @@ use Rattle.grammar.specs.Formula.{Formula}
 use Rattle.ledger.specs.declared.sequent.Sequent.{Sequent}
 use Rattle.verdicts.specs.declared.verdict.Verdict.{Verdict}
 use Rattle.algebra_files.specs.Faults.{FileFault}
-use Rattle.algebra_files.specs.Files.{File, written}
+use Rattle.entries.specs.AlgebraFiles.{File, written}
 use Rattle.algebra_files.specs.Meant.{Means}
 use Rattle.algebra_files.specs.Outcomes.{Verdicted, Outcome, WeighedInFile}
 use Rattle.algebra_files.specs.Reading.{file_in}

@@ -17,7 +17,7 @@ use Rattle.ledger.specs.declared.sequent.Sequent.{Sequent}
 use Rattle.verdicts.specs.Weighing.{Stored, Weighed, Follows}
 use Rattle.verdicts.specs.declared.verdict.Verdict.{Verdict}
 use Rattle.algebra_files.specs.Faults.{record_at, blamed, FileFault}
-use Rattle.algebra_files.specs.Files.{Base, File, written}
+use Rattle.entries.specs.AlgebraFiles.{Base, File, written}
 use Rattle.algebra_files.specs.Meant.{Loads, Means, Elements}
 
 -- the frame of a base that stands at a record, or the record at fault

@@ -1,4 +1,5 @@
 pub mod Naming
+pub mod Behind
 pub mod Turning
 pub mod Steps
 pub mod Fielding

@@ -2,7 +2,7 @@
 ghost use Rattle.entries.specs.ProofFiles.{TurnsOfFiles};
 ghost use Rattle.entries.specs.Written.{RecordsAreWritten};
 
-// The records that come in their turns are those of a proof file, or of one, a separator, and what may come after it.
+// The records that come in their turns are those of a proof file, or of one, a separator, and what may come after it: an algebra file.
 pub fn turns_make_files()
     ensures { TurnsOfFiles }
 {}

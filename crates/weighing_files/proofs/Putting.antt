@@ -18,7 +18,7 @@ use Rattle.soundness.specs.Soundness.{Entails}
 use Rattle.verdicts.specs.Weighing.{premises_of, conclusion_of, Confirms}
 use Rattle.verdicts.specs.declared.verdict.Verdict.{Verdict}
 use Rattle.algebra_files.specs.Faults.{FileFault}
-use Rattle.algebra_files.specs.Files.{File, written}
+use Rattle.entries.specs.AlgebraFiles.{File, written}
 use Rattle.algebra_files.specs.Meant.{Means}
 use Rattle.algebra_files.specs.Outcomes.{Outcome, WeighedInFile}
 use Rattle.algebra_files.proofs.Agreeing.{settled}

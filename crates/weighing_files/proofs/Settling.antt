@@ -16,7 +16,7 @@ use Rattle.scripts.proofs.Showing.{one_derivation}
 use Rattle.grammar.specs.Contents.{Once}
 use Rattle.verdicts.specs.declared.verdict.Verdict.{Verdict}
 use Rattle.algebra_files.specs.Faults.{FileFault}
-use Rattle.algebra_files.specs.Files.{File, written}
+use Rattle.entries.specs.AlgebraFiles.{File, written}
 use Rattle.algebra_files.specs.Meant.{Means}
 use Rattle.algebra_files.specs.Outcomes.{Outcome}
 use Rattle.algebra_files.proofs.Agreeing.{settled}
