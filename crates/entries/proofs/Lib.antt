@@ -1,4 +1,5 @@
 pub mod Naming
+pub mod Places
 pub mod Behind
 pub mod Turning
 pub mod Steps
