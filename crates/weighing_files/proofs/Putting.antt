@@ -6,7 +6,10 @@ use Rattle.grammar.specs.Formula.{Formula}
 use Rattle.ledger.specs.declared.line.Line.{Line}
 use Rattle.entries.specs.Entries.{Said, stored}
 use Rattle.entries.specs.declared.entry.Entry.{Entry}
+use Rattle.entries.proofs.Places.{settled as turns}
+use Rattle.entries.specs.InTurn.{InTurn}
 use Rattle.entries.specs.declared.turn.Format.TheVariants.{Weighing}
+use Rattle.entries.specs.declared.turn.Turn.TheVariants.{Parted}
 use Rattle.answers.specs.declared.checked.Checked.{Checked}
 use Rattle.answers.specs.declared.fault.Fault.{Fault}
 use Rattle.answers.specs.declared.unanswered.Unanswered.{Unanswered}
@@ -25,7 +28,7 @@ use Rattle.algebra_files.proofs.Agreeing.{settled}
 use Rattle.weighing_files.specs.Unique.{Answers}
 use Rattle.weighing_files.specs.Weighing.{proof_part, algebra_part, WeighsInput, Confirmed}
 use Rattle.weighing_files.proofs.Settling.{one_weighing}
-use Rattle.weighing_files.proofs.Tails.{algebra_written}
+use Rattle.weighing_files.proofs.Tails.{algebra_comes}
 use Rattle.weighing_files.proofs.Telling.{always_stored}
 
 module _ (cap : ℕ) (s : List ℕ) (fs gs : List Formula) (es es_then : List (Entry ℕ)) (once : Once fs) where
@@ -71,7 +74,9 @@ module _ (cap : ℕ) (s : List ℕ) (fs gs : List Formula) (es es_then : List (E
 
       weighed : WeighedInFile (length proof + 2) (map stored algebra) gs c.sequent vs vs_then r → WeighsInput cap s fs gs es es_then ls ls_then vs vs_then r
       weighed (WeighedInFile.file f is outcome) = weighed_in f is outcome
-      weighed (WeighedInFile.none never is same) = let turn = algebra_written (all_in_turn cap Weighing s fs gs xs says.1.says) in absurd (never turn.0 (algebra_said ∙ turn.1))
+      weighed (WeighedInFile.out_of_turn n out is same) =
+          let comes : InTurn Weighing Parted (map stored algebra) = subst (InTurn Weighing Parted) (sym algebra_said) (algebra_comes xs (all_in_turn cap Weighing s fs gs xs says.1.says)) in
+          absurd (turns.not_both Weighing Parted (map stored algebra) n comes out)
 
       pub derived : WeighedInFile (length proof + 2) (map stored algebra) gs c.sequent vs vs_then r → Answers cap s fs gs es es_then ls ls_then vs vs_then r
       derived outcome = the_one ls ls_then vs vs_then r (weighed outcome)
@@ -94,4 +99,4 @@ module _ (cap : ℕ) (s : List ℕ) (fs gs : List Formula) (es es_then : List (E
           WeighedInFile (length proof + 2) (map stored algebra) gs c.sequent vs vs_then r → Entails c.sequent.mode (premises_of gs c.sequent) (conclusion_of gs c.sequent)
           → Confirmed cap s fs r
       confirmed (WeighedInFile.file f is outcome) entails = confirmed_in f is r outcome entails
-      confirmed (WeighedInFile.none never is same) entails = subst (λ a. Confirmed cap s fs a) (sym is) tt
+      confirmed (WeighedInFile.out_of_turn n out is same) entails = subst (λ a. Confirmed cap s fs a) (sym is) tt

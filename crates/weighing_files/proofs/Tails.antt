@@ -3,8 +3,6 @@ use Rattle.std.proofs.Common.{◌≡◌, ℕ, suc, ◌+◌, not, false, List, []
 use Rattle.std.proofs.lemmas.Bool.{cond-true, not_from_false}
 use Rattle.std.proofs.lemmas.List.{take_at, drop_at}
 use Rattle.std.specs.List.{position_or_len}
-use Rattle.entries.specs.AlgebraFiles
-use Rattle.entries.specs.AlgebraFiles.{File}
 use Rattle.entries.specs.Entries.{Said}
 use Rattle.entries.specs.InTurn.{InTurn}
 use Rattle.entries.specs.ProofFiles.{Act, act_said, ProofFile, written}
@@ -54,6 +52,3 @@ pub algebra_comes : (xs : List (Said ℕ)) → InTurn Weighing Start xs → InTu
 algebra_comes xs turns =
     let parts = (turns_of_files.weighing xs).0 turns in
     subst (InTurn Weighing Parted) (sym (ap algebra_part parts.2 ∙ behind parts.1 parts.0)) parts.3
-
-pub algebra_written : {xs : List (Said ℕ)} → InTurn Weighing Start xs → (f : File) × (algebra_part xs ≡ AlgebraFiles.written f)
-algebra_written {xs} turns = (turns_of_files.algebra (algebra_part xs)).0 (algebra_comes xs turns)
