@@ -41,6 +41,11 @@ module _ {format : Format} where
   one_place (OutOfTurn.more {xs = xs} later comes rest) (OutOfTurn.more {n = n} other also out) =
       ap suc (one_place rest (subst (λ t. OutOfTurn format t xs n) (same_Some other later (sym also ∙ comes)) out))
 
+pub out_within : {format : Format} {turn : Turn} {n : ℕ} (xs : List (Said ℕ)) → OutOfTurn format turn xs n → n ≤ length xs
+out_within [] (OutOfTurn.absent short) = omega arith
+out_within (x ∷ xs) (OutOfTurn.here none) = omega arith
+out_within (x ∷ xs) (OutOfTurn.more later comes out) = omega (arith, out_within xs out)
+
 pub settled : OnePlace
 settled = record {
   either = in_or_out;
