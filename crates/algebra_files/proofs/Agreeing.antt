@@ -2,10 +2,15 @@
 use Rattle.std.proofs.Common.{◌≡◌, ℕ, ◌<◌, ◌≤◌, List, length, Ok, Err, Result, Decides, refl, sym, ap, ◌∙◌, subst, arith}
 use Rattle.std.proofs.lemmas.Bool.Decides.{same_from_decides}
 use Rattle.answers.specs.declared.fault.Fault.TheVariants as faults
-use Rattle.answers.specs.declared.fault.Reason.TheVariants.{Algebra}
+use Rattle.answers.specs.declared.fault.Reason.TheVariants.{Form, Algebra}
 use Rattle.answers.specs.declared.unanswered.Unanswered.{Unanswered}
 use Rattle.answers.specs.declared.unanswered.Unanswered.TheVariants.{Faulty}
+use Rattle.entries.proofs.Places.{settled as turns}
+use Rattle.entries.proofs.Turning.{turns_of_files}
 use Rattle.entries.specs.Entries.{Said}
+use Rattle.entries.specs.InTurn.{OutOfTurn}
+use Rattle.entries.specs.declared.turn.Format.TheVariants.{Weighing}
+use Rattle.entries.specs.declared.turn.Turn.TheVariants.{Parted}
 use Rattle.grammar.specs.Formula.{Formula}
 use Rattle.heyting.specs.Meaning.{Meaning, Below}
 use Rattle.heyting.specs.declared.refusal.Refusal.{Refusal}
@@ -13,8 +18,8 @@ use Rattle.heyting.specs.declared.refusal.Refusal.TheVariants.{LetterNotMember}
 use Rattle.ledger.specs.declared.sequent.Sequent.{Sequent}
 use Rattle.verdicts.specs.Weighing.{Stored, Weighed, Weighs}
 use Rattle.verdicts.specs.declared.verdict.Verdict.{Verdict}
-use Rattle.algebra_files.specs.Faults.{FileFault}
-use Rattle.algebra_files.specs.Files.{File}
+use Rattle.algebra_files.specs.Faults.{record_at, FileFault}
+use Rattle.entries.specs.AlgebraFiles.{File, written}
 use Rattle.algebra_files.specs.Meant.{Means, Elements}
 use Rattle.algebra_files.specs.Outcomes.{Verdicted, Stopped, Outcome, WeighedInFile}
 use Rattle.algebra_files.specs.Theorems.{Settled}
@@ -81,15 +86,21 @@ module _ (first : ℕ) (f : File) (fs : List Formula) (s : Sequent) (before : Li
   answers_agree a b (Err why) (Ok y) g h = absurd (not_stopped b y why h g.0)
   answers_agree a b (Err why) (Err wherefore) g h = (ap (λ x. Err x) (stops_agree why wherefore g.0 h.0), g.1 ∙ sym h.1)
 
+-- a file's records are not out of turn
+not_out : {xs : List (Said ℕ)} (f : File) (n : ℕ) → xs ≡ written f → OutOfTurn Weighing Parted xs n → ⊥
+not_out {xs} f n is out = turns.not_both Weighing Parted xs n ((turns_of_files.algebra xs).1 (f, is)) out
+
 weighings_agree :
     (first : ℕ) (xs : List (Said ℕ)) (fs : List Formula) (s : Sequent) (before a b : List ℕ) (r q : Result Verdict Unanswered)
     → WeighedInFile first xs fs s before a r → WeighedInFile first xs fs s before b q → (r ≡ q) × (a ≡ b)
 weighings_agree first xs fs s before a b r q (WeighedInFile.file f is g) (WeighedInFile.file k is_too h) =
     let same : f ≡ k = one_file_lem f k (sym is ∙ is_too) in
     answers_agree first k fs s before a b r q (subst (λ x. Outcome (Means x) (FileFault first x) fs x.values s before a r) same g) h
-weighings_agree first xs fs s before a b r q (WeighedInFile.file f is g) (WeighedInFile.none never refused kept) = absurd (never f is)
-weighings_agree first xs fs s before a b r q (WeighedInFile.none never refused kept) (WeighedInFile.file f is h) = absurd (never f is)
-weighings_agree first xs fs s before a b r q (WeighedInFile.none never refused kept) (WeighedInFile.none never_too refused_too kept_too) = (refused ∙ sym refused_too, kept ∙ sym kept_too)
+weighings_agree first xs fs s before a b r q (WeighedInFile.file f is g) (WeighedInFile.out_of_turn n out refused kept) = absurd (not_out f n is out)
+weighings_agree first xs fs s before a b r q (WeighedInFile.out_of_turn n out refused kept) (WeighedInFile.file f is h) = absurd (not_out f n is out)
+weighings_agree first xs fs s before a b r q (WeighedInFile.out_of_turn n out refused kept) (WeighedInFile.out_of_turn m out_too refused_too kept_too) =
+    let same : n ≡ m = turns.one_place Weighing Parted xs n m out out_too in
+    (refused ∙ ap (λ k. Err (Faulty (faults.At (record_at first k) (Form 1)))) same ∙ sym refused_too, kept ∙ sym kept_too)
 
 pub settled : Settled
 settled = record {

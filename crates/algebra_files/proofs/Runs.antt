@@ -10,7 +10,7 @@ use Rattle.entries.specs.Entries.{Said, stored}
 use Rattle.entries.specs.declared.entry.Entry.{Entry}
 use Rattle.entries.specs.declared.entry.Entry.TheVariants.{Pair, Close, Value}
 use Rattle.algebra_files.specs.Cutting.{is_pair, is_value, gives, given_by}
-use Rattle.algebra_files.specs.Files.{pair_said, value_said}
+use Rattle.entries.specs.AlgebraFiles.{pair_said, value_said}
 use Rattle.algebra_files.specs.Meant.{Gives, LastFor, ElementFor}
 use Rattle.algebra_files.specs.Reading.{pairs_in, after_pairs, values_in, after_values}
 use Rattle.algebra_files.proofs.Written.{pairs_end, values_end}

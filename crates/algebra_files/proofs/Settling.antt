@@ -13,7 +13,7 @@ use Rattle.heyting.specs.Values.{ByMembers}
 use Rattle.heyting.specs.declared.refusal.Refusal.{Refusal}
 use Rattle.heyting.specs.declared.refusal.Refusal.TheVariants.{WorldsOutOfRange, NoSuchWorld, SpanTooLarge, NotMember, ShortBuffer, LetterNotMember}
 use Rattle.algebra_files.specs.Faults.{record_at, second_record, layer_record, values_record, blamed, LetterFault, LayerFault, FileFault}
-use Rattle.algebra_files.specs.Files.{Base, File, written}
+use Rattle.entries.specs.AlgebraFiles.{Base, File, written}
 use Rattle.algebra_files.specs.Meant.{Loads, Paired, Founds, Layered, Means, Elements, ElementFor, LastFor}
 use Rattle.algebra_files.specs.Reading.{file_in}
 use Rattle.algebra_files.proofs.Written.{read_back}

@@ -14,7 +14,7 @@ use Rattle.heyting.specs.declared.refusal.Refusal.TheVariants.{SpanTooLarge, Let
 use Rattle.ledger.specs.declared.sequent.Sequent.{Sequent}
 use Rattle.verdicts.specs.declared.verdict.Verdict.{Verdict}
 use Rattle.algebra_files.specs.Faults.{record_at, second_record, layer_record, LayerFault, FileFault}
-use Rattle.algebra_files.specs.Files.{Base, File, base_said, optional}
+use Rattle.entries.specs.AlgebraFiles.{Base, File, base_said, optional}
 use Rattle.algebra_files.specs.Meant.{Loads, Founds, Layered, Means}
 use Rattle.algebra_files.specs.Outcomes.{BaseLoaded, Stopped, Outcome}
 use Rattle.algebra_files.proofs.Widening.{widened}

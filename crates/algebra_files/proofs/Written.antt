@@ -1,7 +1,7 @@
 -- A written file is read back, and what is read was so written.
 use Rattle.std.proofs.Common.{◌≡◌, ℕ, List, [], ◌∷◌, ◌++◌, map, Some, None, Option, refl, sym, ap, ◌∙◌, append-nil}
 use Rattle.entries.specs.Entries.{Said}
-use Rattle.algebra_files.specs.Files.{Base, File, pair_said, value_said, base_said, layer_said, optional, written}
+use Rattle.entries.specs.AlgebraFiles.{Base, File, pair_said, value_said, base_said, layer_said, optional, written}
 use Rattle.algebra_files.specs.Reading.{pairs_in, after_pairs, values_in, after_values, base_in, after_base, layer_in, after_layer, whole, from_layer, from_second, file_in}
 
 -- an entry other than a pair comes first, or none

@@ -4,7 +4,7 @@ use Rattle.std.specs.Option.{option_map}
 use Rattle.entries.specs.Entries.{Said, stored}
 use Rattle.entries.specs.declared.entry.Entry.{Entry}
 use Rattle.entries.specs.declared.entry.Entry.TheVariants.{Pair, Value}
-use Rattle.algebra_files.specs.Files.{Base, File}
+use Rattle.entries.specs.AlgebraFiles.{Base, File}
 use Rattle.algebra_files.specs.Reading.{pairs_in, values_in}
 use Rattle.algebra_files.specs.declared.file.Base.{Base as ABase}
 use Rattle.algebra_files.specs.declared.file.File.{File as AFile}

@@ -6,7 +6,7 @@ use Rattle.heyting.specs.Loading.{Loadable, Unloadable}
 use Rattle.heyting.specs.Meaning.{Meaning, Member}
 use Rattle.heyting.specs.declared.refusal.Refusal.{Refusal}
 use Rattle.heyting.specs.declared.refusal.Refusal.TheVariants.{WorldsOutOfRange, NoSuchWorld, SpanTooLarge, NotMember, ShortBuffer, LetterNotMember}
-use Rattle.algebra_files.specs.Files.{Base, File, base_said, layer_said, optional}
+use Rattle.entries.specs.AlgebraFiles.{Base, File, base_said, layer_said, optional}
 use Rattle.algebra_files.specs.Meant.{Loads, Founds, Layered, Elements, LastFor}
 
 -- the record so many after another; numbers go no further than those of the machine

@@ -1,4 +1,3 @@
-pub mod Files
 pub mod Reading
 pub mod Cutting
 pub mod Meant

@@ -4,7 +4,7 @@ use Rattle.heyting.specs.Layers.{Pairable, product, nucleus}
 use Rattle.heyting.specs.Loading.{Loadable}
 use Rattle.heyting.specs.Meaning.{Meaning, Member}
 use Rattle.heyting.specs.Worlds.{FrameOf}
-use Rattle.algebra_files.specs.Files.{Base, File}
+use Rattle.entries.specs.AlgebraFiles.{Base, File}
 
 -- a base can be loaded, and is the frame m
 pub record Loads (b : Base) (m : Meaning) : Type 0 where

@@ -6,6 +6,9 @@ use Rattle.answers.specs.declared.fault.Reason.TheVariants.{Form, Algebra}
 use Rattle.answers.specs.declared.unanswered.Unanswered.{Unanswered}
 use Rattle.answers.specs.declared.unanswered.Unanswered.TheVariants.{NotStored, ShortValues, Faulty}
 use Rattle.entries.specs.Entries.{Said}
+use Rattle.entries.specs.InTurn.{OutOfTurn}
+use Rattle.entries.specs.declared.turn.Format.TheVariants.{Weighing}
+use Rattle.entries.specs.declared.turn.Turn.TheVariants.{Parted}
 use Rattle.frames.specs.Frames.{frame_means}
 use Rattle.frames.specs.declared.frame.Frame.{Frame}
 use Rattle.grammar.specs.Formula.{Formula}
@@ -17,7 +20,7 @@ use Rattle.ledger.specs.declared.sequent.Sequent.{Sequent}
 use Rattle.verdicts.specs.Weighing.{Stored, Weighed, Follows}
 use Rattle.verdicts.specs.declared.verdict.Verdict.{Verdict}
 use Rattle.algebra_files.specs.Faults.{record_at, blamed, FileFault}
-use Rattle.algebra_files.specs.Files.{Base, File, written}
+use Rattle.entries.specs.AlgebraFiles.{Base, File, written}
 use Rattle.algebra_files.specs.Meant.{Loads, Means, Elements}
 
 -- the frame of a base that stands at a record, or the record at fault
@@ -48,7 +51,9 @@ abbrev pub Outcome : (Meaning → Type 0) → (ℕ → Refusal → Type 0) → L
 Outcome M F fs vs s before after (Ok verdict) = Verdicted M fs vs s before after verdict
 Outcome M F fs vs s before after (Err why) = Stopped M F fs s before why × (after ≡ before)
 
--- the answer to entries that are records from `first` on: that in the algebra of their file, or that they are out of turn from the first
+-- the answer to entries that are records from `first` on: that in the algebra of their file, or the first record that is out of turn
 pub data WeighedInFile (first : ℕ) (xs : List (Said ℕ)) (fs : List Formula) (s : Sequent) (before after : List ℕ) (r : Result Verdict Unanswered) : Type 0 where
   file : (f : File) → xs ≡ written f → Outcome (Means f) (FileFault first f) fs f.values s before after r → WeighedInFile first xs fs s before after r
-  none : ((f : File) → xs ≡ written f → ⊥) → r ≡ Err (Faulty (faults.At first (Form 1))) → after ≡ before → WeighedInFile first xs fs s before after r
+  out_of_turn :
+      (n : ℕ) → OutOfTurn Weighing Parted xs n → r ≡ Err (Faulty (faults.At (record_at first n) (Form 1))) → after ≡ before
+      → WeighedInFile first xs fs s before after r

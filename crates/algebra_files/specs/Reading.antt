@@ -1,7 +1,7 @@
 -- Reading entries back: what they say part by part, each part as long as it goes.
 use Rattle.std.specs.Prelude.{ℕ, List, [], ◌∷◌, Some, None, Option}
 use Rattle.entries.specs.Entries.{Said}
-use Rattle.algebra_files.specs.Files.{Base, File}
+use Rattle.entries.specs.AlgebraFiles.{Base, File}
 
 abbrev pub pairs_in : List (Said ℕ) → List (ℕ × ℕ)
 pairs_in [] = []

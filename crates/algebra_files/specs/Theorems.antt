@@ -9,7 +9,7 @@ use Rattle.heyting.specs.declared.refusal.Refusal.{Refusal}
 use Rattle.ledger.specs.declared.sequent.Sequent.{Sequent}
 use Rattle.verdicts.specs.declared.verdict.Verdict.{Verdict}
 use Rattle.algebra_files.specs.Faults.{FileFault}
-use Rattle.algebra_files.specs.Files.{File, written}
+use Rattle.entries.specs.AlgebraFiles.{File, written}
 use Rattle.algebra_files.specs.Meant.{Means, Elements}
 use Rattle.algebra_files.specs.Outcomes.{Outcome, WeighedInFile}
 

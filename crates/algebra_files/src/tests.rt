@@ -57,6 +57,10 @@ fn fault(record: usize, refusal: Refusal) -> Result<Verdict, Unanswered> {
     Err(Unanswered::Faulty(Fault::At(record, Reason::Algebra(refusal))))
 }
 
+fn out_of_turn(record: usize) -> Result<Verdict, Unanswered> {
+    Err(Unanswered::Faulty(Fault::At(record, Reason::Form(1))))
+}
+
 #[test]
 fn verdicts(rt: HostRuntime) -> Result<(), Fail> {
     let stages = [
@@ -91,10 +95,24 @@ fn faults(rt: HostRuntime) -> Result<(), Fail> {
     assert_eq!(rt; weighed(heap, &span)?, fault(9, Refusal::SpanTooLarge));
     let layer = [Entry::Base(2), Entry::Pair(0, 1), Entry::Nucleus(1)];
     assert_eq!(rt; weighed(heap, &layer)?, fault(10, Refusal::NotMember));
-    assert_eq!(rt;
-        weighed(heap, &[Entry::Close])?,
-        Err(Unanswered::Faulty(Fault::At(FIRST, Reason::Form(1))))
-    );
+    Ok(())
+}
+
+// The first record out of turn is told before any fault of the algebra.
+#[test]
+fn turns(rt: HostRuntime) -> Result<(), Fail> {
+    let heap = rt.alloc();
+    assert_eq!(rt; weighed(heap, &[Entry::Close])?, out_of_turn(8));
+    assert_eq!(rt; weighed(heap, &[])?, out_of_turn(8));
+    let third = [Entry::Base(0), Entry::Base(1), Entry::Base(1)];
+    assert_eq!(rt; weighed(heap, &third)?, out_of_turn(10));
+    let late = [
+        Entry::Base(2),
+        Entry::Value(b'p', 1),
+        Entry::Pair(0, 1),
+        Entry::Close,
+    ];
+    assert_eq!(rt; weighed(heap, &late)?, out_of_turn(10));
     Ok(())
 }
 

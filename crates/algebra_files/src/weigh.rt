@@ -14,6 +14,8 @@ use crate::weigh_in::weigh_over;
 use answers::fault::{Fault, Reason};
 use answers::unanswered::Unanswered;
 use entries::entry::Entry;
+use entries::order::first_out_of_turn;
+use entries::turn::{Format, Turn};
 use formulas::store::Store;
 use heyting::refusal::Refusal;
 use layers::product::Product;
@@ -60,7 +62,7 @@ fn weigh_with(
 
 // The verdict in the algebra that entries mean, which are records from `first` on; or why there is none, and then the buffer is as it was.
 // The faults of the bases, of their product and of the layer come first, then a sequent that is not stored, a short buffer, and a letter with no member.
-// Entries that are those of no file are refused as one that is out of turn, at `first`.
+// Of entries that are those of no file, the first that is out of turn is refused, or the one that is due behind the last.
 pub fn weigh_in_file(
     sequent: &Sequent,
     store: &Store,
@@ -72,6 +74,10 @@ pub fn weigh_in_file(
 {
     match read_file(entries) {
         Some(file) => weigh_with(&file, sequent, store, first, values),
-        None => Err(Unanswered::Faulty(Fault::At(first, Reason::Form(1)))),
+        None => {
+            let place = first_out_of_turn(Format::Weighing, Turn::Parted, entries).unwrap_or(0);
+            let number = first.saturating_add(place);
+            Err(Unanswered::Faulty(Fault::At(number, Reason::Form(1))))
+        }
     }
 }

@@ -29,12 +29,20 @@ layer_letter layers.Derivation = codes "D"
 layer_letter layers.Algebra = codes "A"
 
 -- what a proof file shows, over the formulas of the store
+abbrev pub checked_fields : List Formula → Checked → List (List ℕ)
+checked_fields fs c = codes "OK" ∷ mode_letter c.sequent.mode ∷ decimal c.lines ∷ text_at fs c.sequent.conclusion ∷ map (text_at fs) (premise_places c.sequent)
+
+abbrev pub verdict_fields : Verdict → List (List ℕ)
+verdict_fields v = (if v.holds then codes "HOLDS" else codes "FAILS") ∷ decimal v.meet ∷ decimal v.conclusion ∷ []
+
+abbrev pub fault_fields : Fault → List (List ℕ)
+fault_fields f = codes "NO" ∷ decimal (record_of f) ∷ layer_letter (layer_of f) ∷ decimal (number_of f) ∷ decimal (place_of f) ∷ []
+
 abbrev pub checked_row : List Formula → Checked → List ℕ
-checked_row fs c =
-    row (codes "OK" ∷ mode_letter c.sequent.mode ∷ decimal c.lines ∷ text_at fs c.sequent.conclusion ∷ map (text_at fs) (premise_places c.sequent))
+checked_row fs c = row (checked_fields fs c)
 
 abbrev pub verdict_row : Verdict → List ℕ
-verdict_row v = row ((if v.holds then codes "HOLDS" else codes "FAILS") ∷ decimal v.meet ∷ decimal v.conclusion ∷ [])
+verdict_row v = row (verdict_fields v)
 
 abbrev pub fault_row : Fault → List ℕ
-fault_row f = row (codes "NO" ∷ decimal (record_of f) ∷ layer_letter (layer_of f) ∷ decimal (number_of f) ∷ decimal (place_of f) ∷ [])
+fault_row f = row (fault_fields f)

@@ -11,7 +11,9 @@ use Rattle.answers.specs.declared.fault.Fault.{Fault}
 use Rattle.answers.specs.declared.unanswered.Unanswered.{Unanswered}
 use Rattle.answers.specs.declared.unanswered.Unanswered.TheVariants.{ShortEntries, NotStored, ShortValues, Faulty}
 use Rattle.readings.specs.Answers.{InputRead}
-use Rattle.scripts.specs.Proofs.{RecordsShowOn}
+use Rattle.readings.proofs.Turning.{all_in_turn}
+use Rattle.scripts.proofs.Showing.{shows}
+use Rattle.scripts.specs.Proofs.{DerivesRecords}
 use Rattle.checking.specs.Checking.{answered, ChecksInput}
 use Rattle.checking.specs.Unique.{Answers}
 use Rattle.checking.proofs.Settling.{one_checking}
@@ -30,8 +32,9 @@ module _ (cap : ℕ) (s : List ℕ) (fs gs : List Formula) (es es_then : List (E
   not_read ls why read = the_one ls ls (Err why) (unanswered ls why read)
 
   pub read :
-      (ls ls_then : List Line) (n : ℕ) (r : Result Checked Fault) → InputRead cap Proof s fs gs es es_then (Ok n) → RecordsShowOn gs ls ls_then (map stored (take n es_then)) r
+      (ls ls_then : List Line) (n : ℕ) (r : Result Checked Fault) → InputRead cap Proof s fs gs es es_then (Ok n) → DerivesRecords gs ls ls_then (map stored (take n es_then)) r
       → Answers cap s fs gs es es_then ls ls_then (answered r)
   read ls ls_then n r says derives =
       the_one ls ls_then (answered r)
-      (ChecksInput.read says.0 r says.1 (subst (λ xs. RecordsShowOn gs ls ls_then xs r) (ap (λ k. map stored (take k es_then)) says.2 ∙ says.1.kept.said) derives))
+      (ChecksInput.read says.0 r says.1
+      (shows (all_in_turn cap Proof s fs gs says.0 says.1.says) (subst (λ xs. DerivesRecords gs ls ls_then xs r) (ap (λ k. map stored (take k es_then)) says.2 ∙ says.1.kept.said) derives)))

@@ -1,15 +1,14 @@
 -- A proof file has no two answers.
-use Rattle.std.proofs.Common.{length, Some, None, Ok, Err, Result, map, refl, sym, ap, ◌∙◌, subst, subst₂}
+use Rattle.std.proofs.Common.{Some, None, Ok, Err, Result, map, refl, sym, ap, ◌∙◌, subst, subst₂}
 use Rattle.answers.specs.declared.checked.Checked.{Checked}
 use Rattle.answers.specs.declared.fault.Fault.{Fault}
 use Rattle.answers.specs.declared.unanswered.Unanswered.TheVariants.{Faulty}
 use Rattle.readings.proofs.Settling.{says_once, room_or_not, fault_or_none, same_fault, kept_once}
 use Rattle.scripts.specs.Proofs.{RecordsShowOn}
 use Rattle.scripts.specs.Settled.{SameAnswer}
-use Rattle.scripts.proofs.Showing.{one_derivation}
+use Rattle.scripts.proofs.Showing.{shown_once}
 use Rattle.entries.specs.Entries.{stored}
 use Rattle.readings.specs.Answers.{Kept}
-use Rattle.scripts.specs.Proofs.{LinesOf}
 use Rattle.checking.specs.Checking.{answered, ChecksInput}
 use Rattle.checking.specs.Unique.{SameChecking, OneAnswer}
 
@@ -33,6 +32,5 @@ one_checking n s fs gs es es_a ls ls_a a once (ChecksInput.read xs r says p) hs 
 one_checking n s fs gs es es_a ls ls_a a once (ChecksInput.read xs r says p) hs es_b ls_b b (ChecksInput.read ys t also q) =
     let same = says.only hs ys None also.says in
     let there : RecordsShowOn gs ls ls_b xs t = subst₂ (λ ks zs. RecordsShowOn ks ls ls_b zs t) (sym same.0) (sym same.1) q in
-    let still = says_once once says.says in
-    let one = one_derivation.answers gs (length ls) xs p.0 there.0 r t still p.1 there.1 in
-    (same_answered r t one.1, same.0, kept_once says.kept (subst (λ zs. Kept zs es es_b) (sym same.1) also.kept), one_derivation.lines gs still ls ls_a ls_b p.0 p.2 (subst (λ h. LinesOf gs ls ls_b h) (sym one.0) there.2))
+    let one = shown_once gs (says_once once says.says) xs ls ls_a ls_b r t p there in
+    (same_answered r t one.0, same.0, kept_once says.kept (subst (λ zs. Kept zs es es_b) (sym same.1) also.kept), one.1)

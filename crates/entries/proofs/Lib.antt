@@ -1,4 +1,6 @@
 pub mod Naming
+pub mod Places
+pub mod Behind
 pub mod Turning
 pub mod Steps
 pub mod Fielding

@@ -1,5 +1,6 @@
 -- The records that come in their turns are those of a proof file, up to what comes behind it.
-use Rattle.std.proofs.Common.{◌≡◌, ℕ, true, List, [], ◌∷◌, ◌++◌, map, Some, None, Option, refl, sym, ap, ◌∙◌, subst, append-nil}
+use Rattle.std.proofs.Common.{◌≡◌, ℕ, true, List, [], ◌∷◌, ◌++◌, map, Some, Option, refl, sym, ap, ◌∙◌, subst, append-nil}
+use Rattle.std.proofs.lemmas.Option.{same_Some}
 use Rattle.entries.specs.Entries.{Said}
 use Rattle.entries.specs.InTurn.{kind_said, InTurn}
 use Rattle.entries.specs.ProofFiles.{Act, act_said, ProofFile, written, TurnsOfFiles}
@@ -9,6 +10,7 @@ use Rattle.entries.specs.declared.turn.Format.{Format}
 use Rattle.entries.specs.declared.turn.Format.TheVariants.{Proof, Weighing}
 use Rattle.entries.specs.declared.turn.Turn.{Turn}
 use Rattle.entries.specs.declared.turn.Turn.TheVariants.{Start, Premises, Body, Parted, First, Second, Layered, Values}
+use Rattle.entries.proofs.Behind.{algebra_files_come}
 
 -- what comes behind a proof file
 abbrev Behind : Format → List (Said ℕ) → Type 0
@@ -21,13 +23,6 @@ Tail format Start xs = (p : ProofFile ℕ) × (r : List (Said ℕ)) × (xs ≡ w
 Tail format Premises xs = (ps : List ℕ) × (acts : List (Act ℕ)) × (r : List (Said ℕ)) × (xs ≡ (map Said.premise ps ++ map act_said acts) ++ r) × Behind format r
 Tail format Body xs = (acts : List (Act ℕ)) × (r : List (Said ℕ)) × (xs ≡ map act_said acts ++ r) × Behind format r
 Tail format _ xs = Unit {0}
-
-turned : {a b : Turn} → ◌≡◌ {A = Option Turn} (Some a) (Some b) → a ≡ b
-turned {a} e = ap (λ o. turn_or a o) e
-  where
-    turn_or : Turn → Option Turn → Turn
-    turn_or d None = d
-    turn_or d (Some t) = t
 
 no_more : (format : Format) (turn : Turn) → complete format turn ≡ true → Tail format turn []
 no_more Proof Start full = absurd (cc)
@@ -43,7 +38,7 @@ no_more _ Layered full = tt
 no_more _ Values full = tt
 
 tail_is : {a b : Turn} (format : Format) (xs : List (Said ℕ)) → ◌≡◌ {A = Option Turn} (Some a) (Some b) → Tail format b xs → Tail format a xs
-tail_is format xs e tail = subst (λ t. Tail format t xs) (sym (turned e)) tail
+tail_is {a} {b} format xs e tail = subst (λ t. Tail format t xs) (sym (same_Some a b e)) tail
 
 before_acts : (format : Format) (a : Act ℕ) {xs : List (Said ℕ)} → Tail format Body xs → Tail format Body (act_said a ∷ xs)
 before_acts format a t = (a ∷ t.0, t.1, ap (λ ys. act_said a ∷ ys) t.2, t.3)
@@ -54,7 +49,7 @@ first_act format a t = ([], a ∷ t.0, t.1, ap (λ ys. act_said a ∷ ys) t.2, t
 module _ {later : Turn} {xs : List (Said ℕ)} where
   parted : (format : Format) → follow format Body kinds.Separator ≡ Some later → InTurn format later xs → Behind format (Said.separator ∷ xs)
   parted Proof e rest = absurd (cc)
-  parted Weighing e rest = (xs, refl, subst (λ t. InTurn Weighing t xs) (sym (turned e)) rest)
+  parted Weighing e rest = (xs, refl, subst (λ t. InTurn Weighing t xs) (sym (same_Some Parted later e)) rest)
 
   from_start : (format : Format) (x : Said ℕ) → follow format Start (kind_said x) ≡ Some later → Tail format later xs → Tail format Start (x ∷ xs)
   from_start format (Said.mode m) e tail =
@@ -148,4 +143,5 @@ pub turns_of_files : TurnsOfFiles
 turns_of_files = record {
   proof = λ xs. (λ turns. behind_nothing xs (tail turns), λ f. subst (λ z. InTurn Proof Start z) (sym (f.1 ∙ sym (append-nil (written f.0)))) (file_comes Proof f.0 [] refl));
   weighing = λ xs. (λ turns. behind_separator xs (tail turns), λ f. subst (λ z. InTurn Weighing Start z) (sym f.2) (file_comes Weighing f.0 (Said.separator ∷ f.1) (f.1, refl, f.3)));
+  algebra = algebra_files_come;
 }

@@ -1,5 +1,5 @@
--- Records that come in their turns.
-use Rattle.std.specs.Prelude.{◌≡◌, ℕ, true, List, [], ◌∷◌, Some}
+-- Records that come in their turns, and records that do not.
+use Rattle.std.specs.Prelude.{◌≡◌, ◌⊎◌, ℕ, suc, true, false, List, [], ◌∷◌, Some, None}
 use Rattle.entries.specs.Entries.{Said}
 use Rattle.entries.specs.Turns.{follow, complete}
 use Rattle.entries.specs.declared.kind.Kind.{Kind}
@@ -23,3 +23,17 @@ kind_said (Said.value a e) = kinds.Value
 pub data InTurn (format : Format) : Turn → List (Said ℕ) → Type 0 where
   end : {turn : Turn} → complete format turn ≡ true → InTurn format turn []
   more : {turn : Turn} {x : Said ℕ} {xs : List (Said ℕ)} (later : Turn) → follow format turn (kind_said x) ≡ Some later → InTurn format later xs → InTurn format turn (x ∷ xs)
+
+-- from a turn on the first n records come in their own, and the next has none, or is absent where an input may not end
+pub data OutOfTurn (format : Format) : Turn → List (Said ℕ) → ℕ → Type 0 where
+  absent : {turn : Turn} → complete format turn ≡ false → OutOfTurn format turn [] 0
+  here : {turn : Turn} {x : Said ℕ} {xs : List (Said ℕ)} → follow format turn (kind_said x) ≡ None → OutOfTurn format turn (x ∷ xs) 0
+  more :
+      {turn : Turn} {x : Said ℕ} {xs : List (Said ℕ)} {n : ℕ} (later : Turn) → follow format turn (kind_said x) ≡ Some later → OutOfTurn format later xs n
+      → OutOfTurn format turn (x ∷ xs) (suc n)
+
+-- records come in their turns, or are out of turn at one place, and not both
+pub record OnePlace : Type 0 where
+  pub either : (format : Format) (turn : Turn) (xs : List (Said ℕ)) → InTurn format turn xs ⊎ ((n : ℕ) × OutOfTurn format turn xs n)
+  pub not_both : (format : Format) (turn : Turn) (xs : List (Said ℕ)) (n : ℕ) → InTurn format turn xs → OutOfTurn format turn xs n → ⊥
+  pub one_place : (format : Format) (turn : Turn) (xs : List (Said ℕ)) (n m : ℕ) → OutOfTurn format turn xs n → OutOfTurn format turn xs m → n ≡ m

@@ -4,5 +4,6 @@ pub mod Entries
 pub mod Forms
 pub mod Texts
 pub mod InTurn
+pub mod AlgebraFiles
 pub mod ProofFiles
 pub mod Written

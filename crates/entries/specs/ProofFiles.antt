@@ -2,6 +2,7 @@
 use Rattle.std.specs.Prelude.{◌≡◌, ℕ, ◌↔◌, List, ◌∷◌, ◌++◌, map}
 use Rattle.fitch.specs.declared.mode.Mode.{Mode}
 use Rattle.fitch.specs.declared.rule.Rule.{Rule}
+use Rattle.entries.specs.AlgebraFiles
 use Rattle.entries.specs.Entries.{Said}
 use Rattle.entries.specs.InTurn.{InTurn}
 use Rattle.entries.specs.declared.turn.Format.TheVariants.{Proof, Weighing}
@@ -28,9 +29,10 @@ pub record ProofFile (F : Type 0) : Type 0 where
 abbrev pub written : {F : Type 0} → ProofFile F → List (Said F)
 written p = Said.mode p.mode ∷ (map Said.premise p.premises ++ map act_said p.body)
 
--- the records that come in their turns are those of a proof file; before an algebra file, these, a separator, and what may come after it
+-- the records that come in their turns are those of a proof file; before an algebra file, these, a separator, and what may come after it; and that is an algebra file
 pub record TurnsOfFiles : Type 0 where
   pub proof : (xs : List (Said ℕ)) → InTurn Proof Start xs ↔ ((p : ProofFile ℕ) × (xs ≡ written p))
   pub weighing :
       (xs : List (Said ℕ))
       → InTurn Weighing Start xs ↔ ((p : ProofFile ℕ) × (ys : List (Said ℕ)) × (xs ≡ written p ++ Said.separator ∷ ys) × InTurn Weighing Parted ys)
+  pub algebra : (xs : List (Said ℕ)) → InTurn Weighing Parted xs ↔ ((f : AlgebraFiles.File) × (xs ≡ AlgebraFiles.written f))

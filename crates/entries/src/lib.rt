@@ -4,6 +4,7 @@
 //   citations::Citations   what a step cites, as a record says it
 //   kind::Kind             the kind of a record
 //   turn::Turn             which kinds may come next
+//   order                  where records are first out of turn
 //   parse::parse           what a record says, or its first wrong, missing or surplus field
 //   theorems               how records are written, and which come in their turns
 #![tactic(auto)]
@@ -13,6 +14,7 @@ pub mod entry;
 mod forms;
 pub mod kind;
 mod names;
+pub mod order;
 pub mod parse;
 pub mod theorems;
 pub mod turn;

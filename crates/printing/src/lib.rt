@@ -3,7 +3,7 @@
 //   checked::write_checked   what a proof file shows
 //   verdict::write_verdict   what weighing a sequent answers
 //   fault::write_fault       the first fault of an input
-//   theorems                 that writing a line has one answer
+//   theorems                 that writing a line has one answer, and that a line is read back to its fields
 //
 // A line is written from its end on, so a refusal comes before any byte is written. Where a field does not fit, what follows it is
 // written into nothing, and the line's last byte is refused there; the places of all formulas have then been looked at.

@@ -3,3 +3,4 @@ pub mod Pieces
 pub mod Numbers
 pub mod Cursors
 pub mod Decimals
+pub mod Joining

@@ -3,7 +3,7 @@
 //   records::Records   the records of an input, one after the other
 //   fields::Fields     the fields of a record, one after the other
 //   number::number     the number that a field writes
-//   theorems           that such a number is written in decimal
+//   theorems           which records make an input, which fields a record, and that a number is written in decimal
 #![tactic(auto)]
 
 mod cut;

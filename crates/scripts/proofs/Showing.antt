@@ -1,5 +1,5 @@
 -- A derivation shows one thing, or has one first fault.
-use Rattle.std.proofs.Common.{◌≡◌, ℕ, suc, ◌<◌, inl, inr, List, [], ◌∷◌, map, length, get_or, take, ◌++◌, take-append-drop, Some, None, Option, Ok, Err, Result, refl, sym, ap, ap₂, ◌∙◌, subst, arith}
+use Rattle.std.proofs.Common.{◌≡◌, ℕ, suc, ◌+◌, ◌<◌, inl, inr, List, [], ◌∷◌, map, length, get_or, take, ◌++◌, take-append-drop, Some, None, Option, Ok, Err, Result, refl, sym, ap, ap₂, ◌∙◌, subst, subst₂, arith}
 use Rattle.std.proofs.lemmas.List.{get_or-take, length-take}
 use Rattle.grammar.specs.Contents.{formula_at, Once}
 use Rattle.grammar.specs.Formula.{Formula}
@@ -12,15 +12,21 @@ use Rattle.fitch.specs.declared.mode.Mode.{Mode}
 use Rattle.fitch.proofs.Answering.{one_answers}
 use Rattle.ledger.specs.Sequents.{SequentOf, premise_places}
 use Rattle.ledger.specs.declared.sequent.Sequent.{Sequent}
+use Rattle.entries.proofs.Places.{settled as turns_settled}
 use Rattle.entries.specs.Entries.{Said}
+use Rattle.entries.specs.InTurn.{InTurn}
+use Rattle.entries.specs.declared.turn.Format.TheVariants.{Proof}
+use Rattle.entries.specs.declared.turn.Turn.TheVariants.{Start}
 use Rattle.answers.specs.declared.checked.Checked.{Checked}
 use Rattle.answers.specs.declared.fault.Fault.{Fault}
+use Rattle.answers.specs.declared.fault.Fault.TheVariants.{At}
+use Rattle.answers.specs.declared.fault.Reason.TheVariants.{Form}
 use Rattle.fitch.specs.History.{count}
 use Rattle.fitch.specs.Records.{blank}
 use Rattle.fitch.specs.declared.rule.Reason.{Reason}
 use Rattle.ledger.specs.Recorded.{kept, no_line, Recorded}
 use Rattle.ledger.specs.declared.line.Line.{Line as ALine}
-use Rattle.scripts.specs.Proofs.{mode_of, Concluded, RecordsShow, RunsAll, LinesOf}
+use Rattle.scripts.specs.Proofs.{mode_of, Concluded, RecordsShow, RunsAll, LinesOf, RecordsShowOn, DerivesRecords}
 use Rattle.scripts.specs.Runs.{Stops}
 use Rattle.scripts.specs.Settled.{SameShown, SameAnswer, OneDerivation}
 use Rattle.scripts.proofs.Settling.{stops_once, runs_all_once}
@@ -130,5 +136,26 @@ lines_once fs once before a b h p q =
         let few : k < count h = omega (arith, lt, length-take (count h) es) in
         subst (λ l. l.formula < length fs) (sym (get_or-take (count h) es k no_line few)) (r.stored k few)
 
+module _ (fs : List Formula) (once : Once fs) (xs : List (Said ℕ)) (before a b : List ALine) (r q : Result Checked Fault) where
+  pub shown_once : RecordsShowOn fs before a xs r → RecordsShowOn fs before b xs q → SameAnswer r q × (a ≡ b)
+  shown_once shown also =
+      let one = derives_once fs (length before) xs shown.0 also.0 r q once shown.1 also.1 in
+      (one.1, lines_once fs once before a b shown.0 shown.2 (subst (LinesOf fs before b) (sym one.0) also.2))
+
+  answered_once : DerivesRecords fs before a xs r → DerivesRecords fs before b xs q → SameAnswer r q × (a ≡ b)
+  answered_once (DerivesRecords.in_turn turns shown) (DerivesRecords.in_turn turns_too also) = shown_once shown also
+  answered_once (DerivesRecords.in_turn turns shown) (DerivesRecords.out_of_turn n out refused kept) = absurd (turns_settled.not_both Proof Start xs n turns out)
+  answered_once (DerivesRecords.out_of_turn n out refused kept) (DerivesRecords.in_turn turns also) = absurd (turns_settled.not_both Proof Start xs n turns out)
+  answered_once (DerivesRecords.out_of_turn n out refused kept) (DerivesRecords.out_of_turn m out_too refused_too kept_too) =
+      let same : n ≡ m = turns_settled.one_place Proof Start xs n m out out_too in
+      (subst₂ SameAnswer (sym refused) (sym refused_too) (ap (λ k. At (k + 1) (Form 1)) same), kept ∙ sym kept_too)
+
+-- records that come in their turns are answered by what they show
+pub shows :
+    {fs : List Formula} {before after : List ALine} {xs : List (Said ℕ)} {r : Result Checked Fault}
+    → InTurn Proof Start xs → DerivesRecords fs before after xs r → RecordsShowOn fs before after xs r
+shows turns (DerivesRecords.in_turn turns_too shown) = shown
+shows {xs = xs} turns (DerivesRecords.out_of_turn n out refused kept) = absurd (turns_settled.not_both Proof Start xs n turns out)
+
 pub one_derivation : OneDerivation
-one_derivation = record { runs = runs_all_once; answers = derives_once; lines = lines_once }
+one_derivation = record { runs = runs_all_once; answers = derives_once; lines = lines_once; derives = answered_once }

@@ -13,8 +13,13 @@ use Rattle.ledger.specs.declared.line.Line.{Line}
 use Rattle.soundness.specs.Soundness.{Entails}
 use Rattle.verdicts.specs.Weighing.{premises_of, conclusion_of}
 use Rattle.entries.specs.Entries.{Said}
+use Rattle.entries.specs.InTurn.{InTurn, OutOfTurn}
+use Rattle.entries.specs.declared.turn.Format.TheVariants.{Proof}
+use Rattle.entries.specs.declared.turn.Turn.TheVariants.{Start}
 use Rattle.answers.specs.declared.checked.Checked.{Checked}
 use Rattle.answers.specs.declared.fault.Fault.{Fault}
+use Rattle.answers.specs.declared.fault.Fault.TheVariants.{At}
+use Rattle.answers.specs.declared.fault.Reason.TheVariants.{Form}
 use Rattle.scripts.specs.Runs.{premise_calls, act_calls, Stops, Runs}
 
 -- the records that end the gathering
@@ -72,3 +77,8 @@ pub record LinesOf (fs : List Formula) (before after : List Line) (h : History) 
 -- over a slice of line records, which are those before and then those after: what the records show, or their first fault, and the lines of the history that they reach
 abbrev pub RecordsShowOn : List Formula → List Line → List Line → List (Said ℕ) → Result Checked Fault → Type 0
 RecordsShowOn fs before after xs r = (h : History) × RecordsShow fs (length before) xs h r × LinesOf fs before after h
+
+-- the answer to records, numbered from 1: what they show, or their first fault, where they come in the turns of a proof file; else the first that is out of turn, and the line records as they were
+pub data DerivesRecords (fs : List Formula) (before after : List Line) (xs : List (Said ℕ)) (r : Result Checked Fault) : Type 0 where
+  in_turn : InTurn Proof Start xs → RecordsShowOn fs before after xs r → DerivesRecords fs before after xs r
+  out_of_turn : (n : ℕ) → OutOfTurn Proof Start xs n → r ≡ Err (At (n + 1) (Form 1)) → after ≡ before → DerivesRecords fs before after xs r

@@ -6,7 +6,7 @@ ghost use Rattle.entries.specs.Entries.{stored};
 ghost use Rattle.fitch.specs.History.{History};
 ghost use Rattle.derivations.specs.Finished.{mode_by, Finished, formulas_by};
 ghost use Rattle.scripts.specs.Authoring.{GathersBy, WritesBy, TellsBy};
-ghost use Rattle.scripts.specs.Proofs.{acts, mode_of, front, back, Entailed, Concluded, RecordsShowOn};
+ghost use Rattle.scripts.specs.Proofs.{acts, mode_of, front, back, Entailed, Concluded, DerivesRecords};
 
 use crate::run::acts::act_all;
 use crate::run::premises::gather;
@@ -18,6 +18,8 @@ use derivations::open::Open;
 use derivations::sealed::Sealed;
 use derivations::whole::derive_by;
 use entries::entry::Entry;
+use entries::order::first_out_of_turn;
+use entries::turn::{Format, Turn};
 use fitch::mode::Mode;
 use formulas::store::Store;
 use ledger::line::Line;
@@ -113,9 +115,13 @@ impl Author for Script<'_> {
 }
 
 // Writes a derivation by the records of a proof file, numbered from 1, over the store of their formulas: what it shows, or the first fault.
+// Where they are those of no proof file, the first that is out of turn is refused, or the one that is due behind the last, and the line records are as they were.
 pub fn derive(store: &Store, lines: &mut [Line], entries: &[Entry<usize>]) -> Result<Checked, Fault>
-    ensures exact { RecordsShowOn (contents store.now) lines.old lines.new (map stored entries.now) result }
+    ensures exact { DerivesRecords (contents store.now) lines.old lines.new (map stored entries.now) result }
     ensures entails { IfOk result (Entailed (contents store.now)) }
 {
-    derive_by(&Script { entries }, store, lines, mode_of(entries))
+    match first_out_of_turn(Format::Proof, Turn::Start, entries) {
+        Some(place) => Err(Fault::At(place + 1, Reason::Form(1))),
+        None => derive_by(&Script { entries }, store, lines, mode_of(entries)),
+    }
 }

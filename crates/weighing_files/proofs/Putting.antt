@@ -6,26 +6,30 @@ use Rattle.grammar.specs.Formula.{Formula}
 use Rattle.ledger.specs.declared.line.Line.{Line}
 use Rattle.entries.specs.Entries.{Said, stored}
 use Rattle.entries.specs.declared.entry.Entry.{Entry}
+use Rattle.entries.proofs.Places.{settled as turns}
+use Rattle.entries.specs.InTurn.{InTurn}
 use Rattle.entries.specs.declared.turn.Format.TheVariants.{Weighing}
+use Rattle.entries.specs.declared.turn.Turn.TheVariants.{Start, Parted}
 use Rattle.answers.specs.declared.checked.Checked.{Checked}
 use Rattle.answers.specs.declared.fault.Fault.{Fault}
 use Rattle.answers.specs.declared.unanswered.Unanswered.{Unanswered}
 use Rattle.answers.specs.declared.unanswered.Unanswered.TheVariants.{ShortEntries, NotStored, ShortValues, Faulty}
 use Rattle.readings.specs.Answers.{InputRead}
 use Rattle.readings.proofs.Turning.{all_in_turn}
-use Rattle.scripts.specs.Proofs.{mode_of, RecordsShowOn}
+use Rattle.scripts.proofs.Showing.{shows}
+use Rattle.scripts.specs.Proofs.{mode_of, RecordsShowOn, DerivesRecords}
 use Rattle.soundness.specs.Soundness.{Entails}
 use Rattle.verdicts.specs.Weighing.{premises_of, conclusion_of, Confirms}
 use Rattle.verdicts.specs.declared.verdict.Verdict.{Verdict}
 use Rattle.algebra_files.specs.Faults.{FileFault}
-use Rattle.algebra_files.specs.Files.{File, written}
+use Rattle.entries.specs.AlgebraFiles.{File, written}
 use Rattle.algebra_files.specs.Meant.{Means}
 use Rattle.algebra_files.specs.Outcomes.{Outcome, WeighedInFile}
 use Rattle.algebra_files.proofs.Agreeing.{settled}
 use Rattle.weighing_files.specs.Unique.{Answers}
 use Rattle.weighing_files.specs.Weighing.{proof_part, algebra_part, WeighsInput, Confirmed}
 use Rattle.weighing_files.proofs.Settling.{one_weighing}
-use Rattle.weighing_files.proofs.Tails.{algebra_written}
+use Rattle.weighing_files.proofs.Tails.{proof_comes, algebra_comes}
 use Rattle.weighing_files.proofs.Telling.{always_stored}
 
 module _ (cap : ℕ) (s : List ℕ) (fs gs : List Formula) (es es_then : List (Entry ℕ)) (once : Once fs) where
@@ -57,13 +61,16 @@ module _ (cap : ℕ) (s : List ℕ) (fs gs : List Formula) (es es_then : List (E
     algebra_said : map stored algebra ≡ algebra_part xs
     algebra_said = algebra_is ∙ ap algebra_part said
 
-    derives_said : (r : Result Checked Fault) → RecordsShowOn gs ls ls_then (map stored proof) r → RecordsShowOn gs ls ls_then (proof_part xs) r
-    derives_said r derives = subst (λ ys. RecordsShowOn gs ls ls_then ys r) proof_said derives
+    comes : InTurn Weighing Start xs
+    comes = all_in_turn cap Weighing s fs gs xs says.1.says
 
-    pub not_derived : (vs : List ℕ) (fault : Fault) → RecordsShowOn gs ls ls_then (map stored proof) (Err fault) → Answers cap s fs gs es es_then ls ls_then vs vs (Err (Faulty fault))
+    derives_said : (r : Result Checked Fault) → DerivesRecords gs ls ls_then (map stored proof) r → RecordsShowOn gs ls ls_then (proof_part xs) r
+    derives_said r derives = shows (proof_comes xs comes) (subst (λ ys. DerivesRecords gs ls ls_then ys r) proof_said derives)
+
+    pub not_derived : (vs : List ℕ) (fault : Fault) → DerivesRecords gs ls ls_then (map stored proof) (Err fault) → Answers cap s fs gs es es_then ls ls_then vs vs (Err (Faulty fault))
     not_derived vs fault derives = the_one ls ls_then vs vs (Err (Faulty fault)) (WeighsInput.not_derived xs fault says.1 (derives_said (Err fault) derives) refl)
 
-    module _ (vs vs_then : List ℕ) (c : Checked) (derives : RecordsShowOn gs ls ls_then (map stored proof) (Ok c)) (r : Result Verdict Unanswered) where
+    module _ (vs vs_then : List ℕ) (c : Checked) (derives : DerivesRecords gs ls ls_then (map stored proof) (Ok c)) (r : Result Verdict Unanswered) where
       weighed_in : (f : File) → map stored algebra ≡ written f → Outcome (Means f) (FileFault (length proof + 2) f) gs f.values c.sequent vs vs_then r → WeighsInput cap s fs gs es es_then ls ls_then vs vs_then r
       weighed_in f is outcome =
           WeighsInput.derived xs c f r says.1 (derives_said (Ok c) derives) (sym algebra_said ∙ is)
@@ -71,7 +78,9 @@ module _ (cap : ℕ) (s : List ℕ) (fs gs : List Formula) (es es_then : List (E
 
       weighed : WeighedInFile (length proof + 2) (map stored algebra) gs c.sequent vs vs_then r → WeighsInput cap s fs gs es es_then ls ls_then vs vs_then r
       weighed (WeighedInFile.file f is outcome) = weighed_in f is outcome
-      weighed (WeighedInFile.none never is same) = let turn = algebra_written (all_in_turn cap Weighing s fs gs xs says.1.says) in absurd (never turn.0 (algebra_said ∙ turn.1))
+      weighed (WeighedInFile.out_of_turn n out is same) =
+          let behind : InTurn Weighing Parted (map stored algebra) = subst (InTurn Weighing Parted) (sym algebra_said) (algebra_comes xs comes) in
+          absurd (turns.not_both Weighing Parted (map stored algebra) n behind out)
 
       pub derived : WeighedInFile (length proof + 2) (map stored algebra) gs c.sequent vs vs_then r → Answers cap s fs gs es es_then ls ls_then vs vs_then r
       derived outcome = the_one ls ls_then vs vs_then r (weighed outcome)
@@ -94,4 +103,4 @@ module _ (cap : ℕ) (s : List ℕ) (fs gs : List Formula) (es es_then : List (E
           WeighedInFile (length proof + 2) (map stored algebra) gs c.sequent vs vs_then r → Entails c.sequent.mode (premises_of gs c.sequent) (conclusion_of gs c.sequent)
           → Confirmed cap s fs r
       confirmed (WeighedInFile.file f is outcome) entails = confirmed_in f is r outcome entails
-      confirmed (WeighedInFile.none never is same) entails = subst (λ a. Confirmed cap s fs a) (sym is) tt
+      confirmed (WeighedInFile.out_of_turn n out is same) entails = subst (λ a. Confirmed cap s fs a) (sym is) tt

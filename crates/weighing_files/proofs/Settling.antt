@@ -10,13 +10,13 @@ use Rattle.answers.specs.declared.unanswered.Unanswered.{Unanswered}
 use Rattle.answers.specs.declared.unanswered.Unanswered.TheVariants.{Faulty}
 use Rattle.readings.specs.Answers.{Kept}
 use Rattle.readings.proofs.Settling.{kept_once, says_once, room_or_not, fault_or_none, same_fault}
-use Rattle.scripts.specs.Proofs.{RecordsShowOn, LinesOf}
+use Rattle.scripts.specs.Proofs.{RecordsShowOn}
 use Rattle.scripts.specs.Settled.{SameAnswer}
-use Rattle.scripts.proofs.Showing.{one_derivation}
+use Rattle.scripts.proofs.Showing.{shown_once}
 use Rattle.grammar.specs.Contents.{Once}
 use Rattle.verdicts.specs.declared.verdict.Verdict.{Verdict}
 use Rattle.algebra_files.specs.Faults.{FileFault}
-use Rattle.algebra_files.specs.Files.{File, written}
+use Rattle.entries.specs.AlgebraFiles.{File, written}
 use Rattle.algebra_files.specs.Meant.{Means}
 use Rattle.algebra_files.specs.Outcomes.{Outcome}
 use Rattle.algebra_files.proofs.Agreeing.{settled}
@@ -30,8 +30,7 @@ one_shown :
     → Once gs → gs ≡ hs → xs ≡ ys → RecordsShowOn gs ls ls_a (proof_part xs) a → RecordsShowOn hs ls ls_b (proof_part ys) b → SameAnswer a b × (ls_a ≡ ls_b)
 one_shown {gs} {xs = xs} ls ls_a ls_b a b once stores records p q =
     let there : RecordsShowOn gs ls ls_b (proof_part xs) b = subst₂ (λ ks zs. RecordsShowOn ks ls ls_b (proof_part zs) b) (sym stores) (sym records) q in
-    let one = one_derivation.answers gs (length ls) (proof_part xs) p.0 there.0 a b once p.1 there.1 in
-    (one.1, one_derivation.lines gs once ls ls_a ls_b p.0 p.2 (subst (λ h. LinesOf gs ls ls_b h) (sym one.0) there.2))
+    shown_once gs once (proof_part xs) ls ls_a ls_b a b p there
 
 abbrev Weighed : List Formula → List (Said ℕ) → File → Checked → List ℕ → List ℕ → Result Verdict Unanswered → Type 0
 Weighed gs xs f c values values_then r = Outcome (Means f) (FileFault (length (proof_part xs) + 2) f) gs f.values c.sequent values values_then r

@@ -17,7 +17,7 @@ use Rattle.scripts.specs.Proofs.{mode_of, RecordsShowOn}
 use Rattle.verdicts.specs.Weighing.{Confirms}
 use Rattle.verdicts.specs.declared.verdict.Verdict.{Verdict}
 use Rattle.algebra_files.specs.Faults.{FileFault}
-use Rattle.algebra_files.specs.Files.{File, written}
+use Rattle.entries.specs.AlgebraFiles.{File, written}
 use Rattle.algebra_files.specs.Meant.{Means}
 use Rattle.algebra_files.specs.Outcomes.{Outcome}
 

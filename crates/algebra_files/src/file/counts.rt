@@ -1,7 +1,7 @@
 // How many records the parts of a file take.
 ghost use Rattle.std.specs.Prelude.{◌≡◌, length};
 ghost use Rattle.algebra_files.specs.Cutting.{base_of};
-ghost use Rattle.algebra_files.specs.Files.{base_said};
+ghost use Rattle.entries.specs.AlgebraFiles.{base_said};
 
 use crate::file::Base;
 

@@ -18,4 +18,5 @@ pub returns-in-None : goal.returns-in-None
 returns-in-None c =
     let xs = map stored c.args.entries.now in
     let is : None ≡ file_in xs = sym (ap (option_map file_of) c.in-None.is) ∙ c.read_file.ensures in
-    unread c.args.first xs (contents c.args.store.now) c.args.sequent.now c.args.values.now c.args.values.now is refl
+    unread c.args.first xs (contents c.args.store.now) c.args.sequent.now c.args.values.now c.args.values.now c.first_out_of_turn.result c.saturating_add-number.result c.unwrap_or-place.result is
+    c.first_out_of_turn.ensures c.unwrap_or-place.ensures c.saturating_add-number.ensures refl

@@ -6,7 +6,7 @@ use Rattle.formulas.specs.Stores.{contents}
 use Rattle.frames.specs.Frames.{frame_means}
 use Rattle.heyting.specs.Layers.{product}
 use Rattle.algebra_files.specs.Faults.{record_at, second_record}
-use Rattle.algebra_files.specs.Files.{base_said}
+use Rattle.entries.specs.AlgebraFiles.{base_said}
 use Rattle.algebra_files.specs.Cutting.{base_of, file_of}
 use Rattle.algebra_files.proofs.Standing.{first_wrong, second_wrong, too_large, alone, paired, alone_record, paired_record, standing}
 use Rattle.algebra_files.proofs.weigh.weigh_with.Goals as goal

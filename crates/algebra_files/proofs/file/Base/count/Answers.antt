@@ -1,7 +1,7 @@
 use Rattle.std.proofs.Common.{map, arith}
 use Rattle.std.proofs.lemmas.List.{length-map}
 use Rattle.entries.specs.Entries.{stored}
-use Rattle.algebra_files.specs.Files.{pair_said}
+use Rattle.entries.specs.AlgebraFiles.{pair_said}
 use Rattle.algebra_files.specs.Reading.{pairs_in}
 use Rattle.algebra_files.proofs.Runs.{pairs_length}
 use Rattle.algebra_files.proofs.file.Base.count.Goals as goal
