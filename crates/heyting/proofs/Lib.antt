@@ -7,5 +7,7 @@ pub mod Kripke
 pub mod Closures
 pub mod Values
 pub mod Meets
+pub mod Doubles
+pub mod Layer
 pub mod Evaluating
 pub mod Examples

@@ -1,4 +1,4 @@
--- What an algebra means: a Heyting algebra whose members are numbers below a span.
+-- What an algebra means. An algebra here is a Heyting algebra whose members are numbers below a span of at most 65,536, and so a finite one: a `Meaning` that is `Lawful`.
 use Rattle.std.specs.Prelude.{◌≡◌, ℕ, ◌<◌, ◌≤◌, Bool, true, cond, ◌&&◌, ◌↔◌}
 use Rattle.heyting.specs.Limits.{most_span}
 
@@ -46,3 +46,7 @@ pub record Lawful (m : Meaning) : Type 0 where
   pub bottom_least : (a : ℕ) → Member m a → Below m m.bottom a
   pub top_greatest : (a : ℕ) → Member m a → Below m a m.top
   pub residual : (a b c : ℕ) → Member m a → Member m b → Member m c → Below m (m.meet a b) c ↔ Below m a (m.arrow b c)
+
+-- a Boolean algebra is an algebra in which a double negation lies below what it negates
+abbrev pub Boolean : Meaning → Type 0
+Boolean m = (a : ℕ) → Member m a → Below m (negation m (negation m a)) a

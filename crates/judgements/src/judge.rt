@@ -13,7 +13,7 @@ use verdicts::verdict::Verdict;
 use verdicts::weigh::weigh;
 use weighing::valuation::Valuation;
 
-// The verdict on a derivation in any algebra, by whatever calls it was written and sealed: if it is constructive, its sequent holds.
+// The verdict on a derivation in any algebra, by whatever calls it was written and sealed: if it is constructive, or the algebra is Boolean, its sequent holds.
 #[tactic(auto, using(derivations::proofs::Sounding::finished_sound))]
 pub fn judge<A: Algebra>(
     derivation: &Sealed,

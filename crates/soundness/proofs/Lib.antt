@@ -1,4 +1,2 @@
-pub mod Doubles
-pub mod Layer
 pub mod Lines
 pub mod Sound

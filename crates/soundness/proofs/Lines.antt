@@ -5,8 +5,9 @@ use mathlib.Core.List.{Memᴰ}
 use Rattle.std.specs.List.{AllByRecursion as All}
 use Rattle.std.proofs.ByRecursion.{All-push, All-weaker}
 use Rattle.grammar.specs.Formula.{Formula, negation as not_formula}
-use Rattle.heyting.specs.Meaning.{Meaning, Lawful}
+use Rattle.heyting.specs.Meaning.{Meaning, Lawful, Boolean}
 use Rattle.heyting.specs.Values.{ByMembers}
+use Rattle.heyting.proofs.Doubles.{twice, below_twice}
 use Rattle.heyting.proofs.Lattice.{Elem, ◌⊑◌, bottom, meet, join, arrow, below_trans, meet_left, meet_right, meet_glb, join_left, join_right, bottom_least, curry, apply, weaken, by_cases}
 use Rattle.heyting.proofs.Meets.{worth}
 use Rattle.heyting.proofs.Nuclei.{close}
@@ -17,7 +18,6 @@ use Rattle.fitch.specs.declared.mode.Mode.TheVariants.{Constructive, Classical}
 use Rattle.fitch.specs.declared.rule.Rule.{Rule}
 use Rattle.fitch.specs.declared.rule.Rule.TheVariants.{Reiterate, AndIntro, AndLeft, AndRight, OrLeft, OrRight, OrElim, ImpIntro, ImpElim, ExFalso, Reductio}
 use Rattle.fitch.proofs.Nesting.{all_nth}
-use Rattle.soundness.proofs.Doubles.{twice}
 
 -- which formulas are in force
 
@@ -39,15 +39,15 @@ in_box As Bs A B p = ⊎_elim (λ q. inr (Memᴰ.append_left Bs q)) (λ q. ⊎_e
 with_premise : (As Bs : List Formula) (A B : Formula) → Memᴰ B (As ++ Bs) → Memᴰ B ((As ++ A ∷ []) ++ Bs)
 with_premise As Bs A B p = ⊎_elim (λ q. Memᴰ.append_left Bs (Memᴰ.append_left (A ∷ []) q)) (Memᴰ.append_right (As ++ A ∷ [])) (Memᴰ.append_cases As p)
 
--- the algebras that suit a mode: classically those in which a double negation lies below what it negates
-abbrev pub Suits : Mode → {m : Meaning} → Lawful m → Type 0
-Suits mode {m} l = mode ≡ Classical → (a : Elem m) → twice l a ⊑ a
+-- the algebras that suit a mode: classically the Boolean ones
+abbrev pub Suits : Mode → Meaning → Type 0
+Suits mode m = mode ≡ Classical → Boolean m
 
 classical : (mode : Mode) → Serves mode Reductio → mode ≡ Classical
 classical Constructive s = absurd s
 classical Classical s = refl
 
-module _ (mode : Mode) {m : Meaning} (l : Lawful m) (suits : Suits mode l) (v : List ℕ) (members : ByMembers m v) where
+module _ (mode : Mode) {m : Meaning} (l : Lawful m) (suits : Suits mode m) (v : List ℕ) (members : ByMembers m v) where
   abbrev val : Formula → Elem m
   val A = worth m l v members A
 
@@ -125,7 +125,7 @@ module _ (mode : Mode) {m : Meaning} (l : Lawful m) (suits : Suits mode l) (v : 
       below_trans l (subst (All (Says x)) f q).0 (record { below = (bottom_least l (val F)).below })
   fitting Reductio F cs s f x q =
       let refuted : meet l x (val (not_formula F)) ⊑ bottom l = record { below = (subst (All (Says x)) f q).0.below } in
-      below_trans l (record { below = (curry l (val (not_formula F)) refuted).below }) (suits (classical mode s) (val F))
+      below_twice l (suits (classical mode s)) {a = val F} (record { below = (curry l (val (not_formula F)) refuted).below })
 
   permits : {h : History} {A : Formula} {r : Rule} {is : List ℕ} → All (Holds h) (lines h) → Permits mode h A r is → (x : Elem m) → Now h x → x ⊑ val A
   permits {h} {A} {r} {is} g p x n = fitting r A p.cited p.serves p.fits x (cited_hold h is p.cited g p.cites x n)

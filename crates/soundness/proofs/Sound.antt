@@ -4,6 +4,8 @@ use mathlib.Core.List.{Memᴰ}
 use Rattle.grammar.specs.Formula.{Formula}
 use Rattle.heyting.specs.Meaning.{Meaning, Below, Lawful}
 use Rattle.heyting.specs.Values.{value, meet_all, ByMembers}
+use Rattle.heyting.proofs.Doubles.{twice, above_twice, twice_mono}
+use Rattle.heyting.proofs.Layer.{layer, doubled, layer_lawful, layer_boolean, regular_is, raise, doubled_members, layer_value}
 use Rattle.heyting.proofs.Lattice.{Elem, ◌⊑◌, arrow, bottom, below_trans}
 use Rattle.heyting.proofs.Meets.{worth, greatest_meet}
 use Rattle.heyting.proofs.Nuclei.{close}
@@ -11,8 +13,6 @@ use Rattle.fitch.specs.History.{History, Line, Written, line_at, premises, in_fo
 use Rattle.fitch.specs.declared.mode.Mode.{Mode}
 use Rattle.fitch.specs.declared.mode.Mode.TheVariants.{Constructive, Classical}
 use Rattle.soundness.specs.Soundness.{Entails, Sound, ConstructiveSound, ClassicalSound, ClassicalInLayers, ConclusionsFollow}
-use Rattle.soundness.proofs.Doubles.{twice, above_twice, twice_mono}
-use Rattle.soundness.proofs.Layer.{layer, doubled, layer_lawful, layer_classical, regular_is, raise, doubled_members, layer_value}
 use Rattle.soundness.proofs.Lines.{line_holds}
 
 apart : Constructive ≡ Classical → ⊥
@@ -39,7 +39,7 @@ sound Constructive h w i y e m l v members =
     (line_holds Constructive l (λ p. absurd (apart p)) v members h w i y e (all l v members (in_force h y)) (below_each l v members (in_force h y))).below
 sound Classical h w i y e m l v members =
     let given = all l v members (in_force h y) in
-    let in_layer = line_holds Classical (layer_lawful l) (λ _. layer_classical l) (map (doubled m) v) (doubled_members l v members) h w i y e (raise l given) (raised_below_each l v members (in_force h y)) in
+    let in_layer = line_holds Classical (layer_lawful l) (λ _. layer_boolean l) (map (doubled m) v) (doubled_members l v members) h w i y e (raise l given) (raised_below_each l v members (in_force h y)) in
     let back : twice l given ⊑ twice l (worth m l v members y.formula) =
     record { below = subst (Below m (doubled m given.at)) (layer_value l v members y.formula) in_layer.below } in
     (below_trans l (above_twice l given) back).below
@@ -55,7 +55,7 @@ in_layer : {m : Meaning} (l : Lawful m) (v : List ℕ) → ByMembers (layer m) v
 unfolding all
 in_layer l v members h w i y e =
     let lawful = layer_lawful l in
-    (line_holds Classical lawful (λ _. layer_classical l) v members h w i y e (all lawful v members (in_force h y)) (below_each lawful v members (in_force h y))).below
+    (line_holds Classical lawful (λ _. layer_boolean l) v members h w i y e (all lawful v members (in_force h y)) (below_each lawful v members (in_force h y))).below
 
 pub classical_in_layers : ClassicalInLayers
 classical_in_layers h w i y e m l v members =

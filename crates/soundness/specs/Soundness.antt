@@ -1,5 +1,5 @@
--- What a derivation says in every Heyting algebra.
-use Rattle.std.specs.Prelude.{◌≡◌, ℕ, List, map, Some}
+-- What a derivation says in every algebra.
+use Rattle.std.specs.Prelude.{◌≡◌, ℕ, List, Some}
 use Rattle.grammar.specs.Formula.{Formula}
 use Rattle.heyting.specs.Meaning.{Meaning, Below, Lawful, negation}
 use Rattle.heyting.specs.Layers.{regular}
@@ -42,12 +42,6 @@ ClassicalInLayers =
     (h : History) → Written Classical h → (i : ℕ) (l : Line) → line_at h i ≡ Some l
     → (m : Meaning) → Lawful m → (v : List ℕ) → ByMembers (regular m) v
     → Below (regular m) (meet_all (regular m) v (in_force h l)) (value (regular m) v l.formula)
-
--- where each letter has in the double-negation layer the double negation of its value, every formula has the double negation of its value
-abbrev pub DoubleNegations : Type 0
-DoubleNegations =
-    (m : Meaning) → Lawful m → (v : List ℕ) → ByMembers m v → (A : Formula)
-    → value (regular m) (map (λ a. negation m (negation m a)) v) A ≡ negation m (negation m (value m v A))
 
 -- the last line that no box contains follows from the premises
 abbrev pub ConclusionsFollow : Type 0

@@ -1,4 +1,4 @@
-// The theory of soundness: what a derivation says in every Heyting algebra.
+// The theory of soundness: what a derivation says in every algebra.
 //
 //   theorems   what holds of every derivation
 #![tactic(auto)]

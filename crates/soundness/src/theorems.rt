@@ -1,12 +1,11 @@
 // What holds of every derivation. Each function stands for the theorem that its contract states.
-ghost use Rattle.soundness.specs.Soundness.{ConstructiveSound, ClassicalSound, ClassicalInLayers, DoubleNegations, ConclusionsFollow};
+ghost use Rattle.soundness.specs.Soundness.{ConstructiveSound, ClassicalSound, ClassicalInLayers, ConclusionsFollow};
 
-// At every line the meet of the formulas in force lies below the line's value, or classically below the double negation of it, and in a double-negation layer below the value itself. Where each letter has in the double-negation layer the double negation of its value, so has every formula.
+// At every line the meet of the formulas in force lies below the line's value, or classically below the double negation of it, and in a double-negation layer below the value itself.
 pub fn derivations_are_sound()
     ensures constructive { ConstructiveSound }
     ensures classical { ClassicalSound }
     ensures in_layers { ClassicalInLayers }
-    ensures layer { DoubleNegations }
 {}
 
 // What a derivation concludes follows from its premises.

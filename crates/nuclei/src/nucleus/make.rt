@@ -1,7 +1,8 @@
 // Makes a layer, and applies its nucleus.
 ghost use Rattle.std.specs.Prelude.{◌≡◌, MatchResult};
 ghost use Rattle.heyting.specs.Layers.{closure};
-ghost use Rattle.heyting.specs.Meaning.{Member};
+ghost use Rattle.heyting.specs.Meaning.{Member, Boolean};
+ghost use Rattle.heyting.specs.Theorems.{DoubleNegations};
 ghost use Rattle.heyting.specs.declared.refusal.Refusal.TheVariants.{NotMember};
 
 use crate::nucleus::Nucleus;
@@ -38,11 +39,13 @@ impl<A: Algebra> Nucleus<A> {
         Ok(Nucleus { below, element })
     }
 
-    // The layer at the bottom, whose members are those that equal their double negation.
+    // The layer at the bottom, whose members are those that equal their double negation. Where each letter has in it the double negation of its value below, so has every formula; and a double negation lies below what it negates.
     pub fn double_negation(below: A) -> Nucleus<A>
         ensures below { result.below ≡ below }
         ensures element { result.element ≡ (A.Algebra.means below).bottom }
         ensures member { Member (A.Algebra.means below) result.element }
+        ensures values { DoubleNegations (A.Algebra.means below) (⟦<Nucleus<A> as Algebra>⟧.means result) }
+        ensures boolean { Boolean (⟦<Nucleus<A> as Algebra>⟧.means result) }
     {
         let element = below.bottom();
         Nucleus { below, element }

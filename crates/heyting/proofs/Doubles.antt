@@ -1,6 +1,6 @@
 -- The double negation of a meet, a join and an arrow.
 use Rattle.std.proofs.Common.{◌≡◌}
-use Rattle.heyting.specs.Meaning.{Meaning, Lawful}
+use Rattle.heyting.specs.Meaning.{Meaning, Lawful, Boolean}
 use Rattle.heyting.proofs.Lattice.{Elem, ◌⊑◌, bottom, meet, join, arrow, below_refl, below_trans, antisym, meet_left, meet_right, meet_glb, join_left, join_right, bottom_least, curry, apply, weaken}
 use Rattle.heyting.proofs.Nuclei.{close, unit, bind, close_closed, join_closed_lub}
 
@@ -17,6 +17,11 @@ module _ {m : Meaning} (l : Lawful m) where
   twice_mono {a} {b} p =
       let e = bottom l in
       bind l e a b (below_refl l (close l e a)) (unit l e (below_trans l (meet_right l (close l e a) a) p))
+
+  -- in a Boolean algebra what lies below a double negation lies below what it negates
+  pub below_twice : Boolean m → {x a : Elem m} → x ⊑ twice a → x ⊑ a
+  unfolding twice close arrow bottom
+  below_twice boolean {x} {a} p = below_trans l p (record { below = boolean a.at a.is })
 
   pub twice_meet : (a b : Elem m) → (meet l (twice a) (twice b)).at ≡ (twice (meet l a b)).at
   unfolding twice

@@ -6,14 +6,14 @@ use Rattle.grammar.specs.Formula.{Formula}
 use Rattle.grammar.specs.Formula.Formula.{falsum, letter, joined}
 use Rattle.grammar.specs.declared.connective.Connective.TheVariants.{And, Or, Implies}
 use Rattle.heyting.specs.Layers.{closure, fixed, regular, single}
-use Rattle.heyting.specs.Meaning.{Meaning, Member, Lawful, negation}
+use Rattle.heyting.specs.Meaning.{Meaning, Member, Lawful, Boolean, negation}
+use Rattle.heyting.specs.Theorems.{LayerValuesAreDoubleNegations}
 use Rattle.heyting.specs.Values.{value, ByMembers}
-use Rattle.heyting.proofs.Lattice.{Elem, ◌⊑◌, bottom, meet, join, arrow, below_refl, antisym, meet_right, bottom_least, curry, apply, below_same}
+use Rattle.heyting.proofs.Doubles.{twice, twice_meet, twice_join, twice_arrow}
+use Rattle.heyting.proofs.Lattice.{Elem, bottom, meet, join, arrow, below_refl, antisym, meet_right, bottom_least, curry, apply, below_same}
 use Rattle.heyting.proofs.Meets.{worth}
 use Rattle.heyting.proofs.Nuclei.{close, close_closed, in_fixed, fixed_lawful}
 use Rattle.heyting.proofs.Values.{element_in}
-use Rattle.soundness.specs.Soundness.{DoubleNegations}
-use Rattle.soundness.proofs.Doubles.{twice, twice_meet, twice_join, twice_arrow}
 
 abbrev pub doubled : Meaning → ℕ → ℕ
 doubled m a = negation m (negation m a)
@@ -43,11 +43,12 @@ module _ {m : Meaning} (l : Lawful m) where
       antisym l (apply l (below_refl l n) (curry l o (meet_right l n o))) (bottom_least l n)
 
   -- in the layer a double negation lies below what it negates
-  pub layer_classical : (a : Elem (layer m)) → twice layer_lawful a ⊑ a
+  pub layer_boolean : Boolean (layer m)
   unfolding twice close arrow bottom
-  layer_classical a =
-      let own : doubled m a.at ≡ a.at = eqb-true _ _ (and_parts (m.member a.at) (eqb (doubled m a.at) a.at) a.is).1 in
-      below_same layer_lawful (twice layer_lawful a) a (ap (λ e. closure m e a.at) bottom_doubled ∙ own)
+  layer_boolean a is =
+      let x : Elem (layer m) = record { at = a; is = is } in
+      let own : doubled m a ≡ a = eqb-true _ _ (and_parts (m.member a) (eqb (doubled m a) a) is).1 in
+      (below_same layer_lawful (twice layer_lawful x) x (ap (λ e. closure m e a) bottom_doubled ∙ own)).below
 
   module _ (v : List ℕ) (members : ByMembers m v) where
     pub doubled_members : ByMembers (layer m) (map (doubled m) v)
@@ -65,6 +66,9 @@ module _ {m : Meaning} (l : Lawful m) where
         ap₂ (λ a b. doubled m (m.join a b)) (layer_value A) (layer_value B) ∙ twice_join l (worth m l v members A) (worth m l v members B)
     layer_value (joined Implies A B) = ap₂ m.arrow (layer_value A) (layer_value B) ∙ twice_arrow l (worth m l v members A) (worth m l v members B)
 
-pub double_negations : DoubleNegations
+pub regular_boolean : (m : Meaning) → Lawful m → Boolean (regular m)
+regular_boolean m l = subst Boolean (regular_is l) (layer_boolean l)
+
+pub double_negations : LayerValuesAreDoubleNegations
 double_negations m l v members A =
     subst (λ k. value k (map (doubled m) v) A ≡ doubled m (value m v A)) (regular_is l) (layer_value l v members A)
