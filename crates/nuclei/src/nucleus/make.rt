@@ -1,7 +1,8 @@
 // Makes a layer, and applies its nucleus.
 ghost use Rattle.std.specs.Prelude.{◌≡◌, MatchResult};
 ghost use Rattle.heyting.specs.Layers.{closure};
-ghost use Rattle.heyting.specs.Meaning.{Member};
+ghost use Rattle.heyting.specs.Meaning.{Member, Boolean};
+ghost use Rattle.heyting.specs.Theorems.{DoubleNegations};
 ghost use Rattle.heyting.specs.declared.refusal.Refusal.TheVariants.{NotMember};
 
 use crate::nucleus::Nucleus;
@@ -43,6 +44,8 @@ impl<A: Algebra> Nucleus<A> {
         ensures below { result.below ≡ below }
         ensures element { result.element ≡ (A.Algebra.means below).bottom }
         ensures member { Member (A.Algebra.means below) result.element }
+        ensures values { DoubleNegations (A.Algebra.means below) (⟦<Nucleus<A> as Algebra>⟧.means result) }
+        ensures boolean { Boolean (⟦<Nucleus<A> as Algebra>⟧.means result) }
     {
         let element = below.bottom();
         Nucleus { below, element }
