@@ -12,7 +12,7 @@ use verdicts::verdict::Verdict;
 use verdicts::weigh::weigh;
 use weighing::valuation::Valuation;
 
-// The verdict on a derivation in any algebra, by whatever calls it was written and sealed: if it is constructive, its sequent holds.
+// The verdict on a derivation in any algebra, by whatever calls it was written and sealed: if it is constructive, or the algebra is Boolean, its sequent holds.
 pub fn judge<A: Algebra>(
     derivation: &Sealed,
     algebra: &A,

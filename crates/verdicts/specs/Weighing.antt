@@ -3,7 +3,7 @@ use Rattle.std.specs.Prelude.{◌≡◌, ℕ, ◌<◌, true, List, map, length, 
 use Rattle.grammar.specs.Contents.{formula_at}
 use Rattle.grammar.specs.Formula.{Formula}
 use Rattle.heyting.specs.Evaluating.{Evaluated, Unevaluated}
-use Rattle.heyting.specs.Meaning.{Meaning, Member, Below, negation}
+use Rattle.heyting.specs.Meaning.{Meaning, Member, Below, Boolean, negation}
 use Rattle.heyting.specs.Values.{value, meet_all}
 use Rattle.fitch.specs.declared.mode.Mode.{Mode}
 use Rattle.fitch.specs.declared.mode.Mode.TheVariants.{Constructive, Classical}
@@ -45,10 +45,10 @@ abbrev pub Weighed : Meaning → List Formula → List ℕ → Sequent → List 
 Weighed m fs v s before after (Ok verdict) = Stored fs s × Evaluated m fs v before after (Ok tt) × Weighs m fs v s verdict
 Weighed m fs v s before after (Err refusal) = Unweighed m fs v s before refusal × (after ≡ before)
 
--- constructively the verdict holds, classically it holds of the double negation of the conclusion's value
+-- constructively the verdict holds; classically the meet lies below the double negation of the conclusion's value, and in a Boolean algebra, as a double-negation layer is, the verdict holds
 abbrev pub Confirms : Mode → Meaning → Verdict → Type 0
 Confirms Constructive m verdict = verdict.holds ≡ true
-Confirms Classical m verdict = Below m verdict.meet (negation m (negation m verdict.conclusion))
+Confirms Classical m verdict = Below m verdict.meet (negation m (negation m verdict.conclusion)) × (Boolean m → verdict.holds ≡ true)
 
 -- a verdict confirms what the premises entail
 abbrev pub Follows : Meaning → List Formula → Sequent → Result Verdict Unweighable → Type 0

@@ -50,7 +50,7 @@ pub data WeighsInput (capacity : ℕ) (s : List ℕ) (fs gs : List Formula) (ent
       → Outcome (Means f) (FileFault (length (proof_part xs) + 2) f) gs f.values c.sequent values values_then r
       → WeighsInput capacity s fs gs entries entries_then lines lines_then values values_then r
 
--- in the algebra that the file means (that there is one is told by `derived`), a verdict confirms what the proof file shows: it holds of a constructive one, and of the double negation of what a classical one shows
+-- in the algebra that the file means (that there is one is told by `derived`), a verdict confirms what the proof file shows, in its mode
 abbrev pub Confirmed : ℕ → List ℕ → List Formula → Result Verdict Unanswered → Type 0
 Confirmed capacity s fs (Ok verdict) =
     (gs : List Formula) (xs : List (Said ℕ)) (f : File) (m : Meaning) → InputSays capacity Weighing s fs gs xs None → algebra_part xs ≡ written f → Means f m
