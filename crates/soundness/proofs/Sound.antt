@@ -1,18 +1,19 @@
 -- Every line of a derivation is sound, and so is its conclusion.
-use Rattle.std.proofs.Common.{◌≡◌, ℕ, List, [], map, Some, sym, subst, append-nil, arith}
+use Rattle.std.proofs.Common.{◌≡◌, ℕ, List, [], map, sym, subst, append-nil, arith}
 use mathlib.Core.List.{Memᴰ}
 use Rattle.grammar.specs.Formula.{Formula}
+use Rattle.heyting.specs.Layers.{regular}
 use Rattle.heyting.specs.Meaning.{Meaning, Below, Lawful}
-use Rattle.heyting.specs.Values.{value, meet_all, ByMembers}
+use Rattle.heyting.specs.Values.{meet_all, ByMembers}
 use Rattle.heyting.proofs.Doubles.{twice, above_twice, twice_mono}
-use Rattle.heyting.proofs.Layer.{layer, doubled, layer_lawful, layer_boolean, regular_is, raise, doubled_members, layer_value}
+use Rattle.heyting.proofs.Layer.{layer, doubled, layer_lawful, layer_boolean, regular_boolean, raise, doubled_members, layer_value}
 use Rattle.heyting.proofs.Lattice.{Elem, ◌⊑◌, arrow, bottom, below_trans}
 use Rattle.heyting.proofs.Meets.{worth, greatest_meet}
-use Rattle.heyting.proofs.Nuclei.{close}
-use Rattle.fitch.specs.History.{History, Line, Written, line_at, premises, in_force}
+use Rattle.heyting.proofs.Nuclei.{close, regular_lawful}
+use Rattle.fitch.specs.History.{History, Written, premises, in_force}
 use Rattle.fitch.specs.declared.mode.Mode.{Mode}
 use Rattle.fitch.specs.declared.mode.Mode.TheVariants.{Constructive, Classical}
-use Rattle.soundness.specs.Soundness.{Entails, Sound, ConstructiveSound, ClassicalSound, ClassicalInLayers, ConclusionsFollow}
+use Rattle.soundness.specs.Soundness.{Entails, Sound, ConstructiveSound, ClassicalSound, ClassicalInBoolean, ClassicalInLayers, ConclusionsFollow}
 use Rattle.soundness.proofs.Lines.{line_holds}
 
 apart : Constructive ≡ Classical → ⊥
@@ -50,17 +51,13 @@ constructive_sound = sound Constructive
 pub classical_sound : ClassicalSound
 classical_sound = sound Classical
 
-in_layer : {m : Meaning} (l : Lawful m) (v : List ℕ) → ByMembers (layer m) v → (h : History) → Written Classical h → (i : ℕ) (y : Line) → line_at h i ≡ Some y
-    → Below (layer m) (meet_all (layer m) v (in_force h y)) (value (layer m) v y.formula)
+pub classical_in_boolean : ClassicalInBoolean
 unfolding all
-in_layer l v members h w i y e =
-    let lawful = layer_lawful l in
-    (line_holds Classical lawful (λ _. layer_boolean l) v members h w i y e (all lawful v members (in_force h y)) (below_each lawful v members (in_force h y))).below
+classical_in_boolean h w i y e m l boolean v members =
+    (line_holds Classical l (λ _. boolean) v members h w i y e (all l v members (in_force h y)) (below_each l v members (in_force h y))).below
 
 pub classical_in_layers : ClassicalInLayers
-classical_in_layers h w i y e m l v members =
-    subst (λ k. Below k (meet_all k v (in_force h y)) (value k v y.formula)) (regular_is l)
-    (in_layer l v (subst (λ k. ByMembers k v) (sym (regular_is l)) members) h w i y e)
+classical_in_layers h w i y e m l = classical_in_boolean h w i y e (regular m) (regular_lawful m l) (regular_boolean m l)
 
 pub conclusions_follow_lem : ConclusionsFollow
 conclusions_follow_lem mode h A w c =

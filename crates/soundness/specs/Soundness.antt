@@ -1,7 +1,7 @@
 -- What a derivation says in every algebra.
 use Rattle.std.specs.Prelude.{◌≡◌, ℕ, List, Some}
 use Rattle.grammar.specs.Formula.{Formula}
-use Rattle.heyting.specs.Meaning.{Meaning, Below, Lawful, negation}
+use Rattle.heyting.specs.Meaning.{Meaning, Below, Lawful, Boolean, negation}
 use Rattle.heyting.specs.Layers.{regular}
 use Rattle.heyting.specs.Values.{value, meet_all, ByMembers}
 use Rattle.fitch.specs.History.{History, Line, Written, line_at, in_force, premises}
@@ -35,6 +35,13 @@ ClassicalSound =
     (h : History) → Written Classical h → (i : ℕ) (l : Line) → line_at h i ≡ Some l
     → (m : Meaning) → Lawful m → (v : List ℕ) → ByMembers m v
     → Below m (meet_all m v (in_force h l)) (negation m (negation m (value m v l.formula)))
+
+-- at every line of a classical derivation, in every Boolean algebra, the meet of the formulas in force lies below the line's value
+abbrev pub ClassicalInBoolean : Type 0
+ClassicalInBoolean =
+    (h : History) → Written Classical h → (i : ℕ) (l : Line) → line_at h i ≡ Some l
+    → (m : Meaning) → Lawful m → Boolean m → (v : List ℕ) → ByMembers m v
+    → Below m (meet_all m v (in_force h l)) (value m v l.formula)
 
 -- at every line of a classical derivation, in every double-negation layer, the meet of the formulas in force lies below the line's value
 abbrev pub ClassicalInLayers : Type 0
