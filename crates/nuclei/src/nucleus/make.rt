@@ -39,7 +39,7 @@ impl<A: Algebra> Nucleus<A> {
         Ok(Nucleus { below, element })
     }
 
-    // The layer at the bottom, whose members are those that equal their double negation. Where each letter has in it the double negation of its value below, so has every formula; and a double negation lies below what it negates.
+    // The layer at the bottom, whose members are those that equal their double negation.
     pub fn double_negation(below: A) -> Nucleus<A>
         ensures below { result.below ≡ below }
         ensures element { result.element ≡ (A.Algebra.means below).bottom }
