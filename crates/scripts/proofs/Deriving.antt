@@ -1,5 +1,5 @@
 -- The premises, the other records and the sequent, put together.
-use Rattle.std.proofs.Common.{◌≡◌, ℕ, ◌+◌, ◌≤◌, List, [], ◌∷◌, map, length, drop, Some, None, Ok, Err, IfOk, Result, inl, inr, refl, sym, ap, ap₂, ◌∙◌, subst, subst₂}
+use Rattle.std.proofs.Common.{◌≡◌, ℕ, ◌+◌, ◌≤◌, List, [], ◌∷◌, length, drop, Some, None, Ok, Err, IfOk, Result, inl, inr, refl, sym, ap, ap₂, ◌∙◌, subst, subst₂}
 use Rattle.std.specs.Borrow.{Bor}
 use Rattle.grammar.specs.Formula.{Formula}
 use Rattle.fitch.specs.History.{History, begin}
@@ -11,13 +11,10 @@ use Rattle.ledger.specs.declared.line.Line.{Line}
 use Rattle.derivations.specs.Derived.{sheet_in, Derived, Leaves as LeavesOpen}
 use Rattle.derivations.specs.Gathered.{sheet_of, Gathered}
 use Rattle.derivations.specs.Sheets.{Sheet, formulas_of, Leaves}
-use Rattle.derivations.specs.Finished.{mode_by, Finished, formulas_by}
 use Rattle.derivations.specs.Whole.{Makes, Opened, FromOpen, FromGathering, Whole}
 use Rattle.derivations.specs.declared.gathering.Gathering.{Gathering}
 use Rattle.derivations.specs.declared.open.Open.{Open}
-use Rattle.derivations.specs.declared.sealed.Sealed.{Sealed}
-use Rattle.entries.specs.Entries.{Said, stored}
-use Rattle.entries.specs.declared.entry.Entry.{Entry}
+use Rattle.entries.specs.Entries.{Said}
 use Rattle.answers.specs.declared.checked.Checked.{Checked}
 use Rattle.answers.specs.declared.fault.Fault.{Fault}
 use Rattle.scripts.proofs.Running.{drop_further}
