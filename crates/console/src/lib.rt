@@ -1,5 +1,5 @@
 // An input read from any reader, and a line written to any writer.
-// A call that is interrupted is made again; the turns are bounded, so that each function ends.
+// A read or a write that is interrupted is made again; the turns are bounded, so that each function ends.
 #![tactic(auto)]
 
 ghost use Rattle.std.specs.Io.KnownBytes.{Appends, Consumes, IsAtEnd};
